@@ -1,0 +1,6 @@
+pub mod Rows
+pub mod Refusals
+pub mod Faults
+pub mod Views
+pub mod Emits
+pub mod Keys
