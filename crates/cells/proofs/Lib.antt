@@ -1,3 +1,4 @@
 pub mod Rows
 pub mod Flags
 pub mod Alike
+pub mod Same

@@ -4,3 +4,4 @@ pub mod Faults
 pub mod Views
 pub mod Emits
 pub mod Keys
+pub mod Same
