@@ -1,0 +1,3 @@
+pub mod SortKeys
+pub mod LastRuns
+pub mod Counted

@@ -1,0 +1,4 @@
+pub mod Runs
+pub mod Orders
+pub mod Tracked
+pub mod Skip
