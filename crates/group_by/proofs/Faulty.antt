@@ -20,9 +20,8 @@ use Rattle.std.proofs.shelf.Lists.{at-drop-more, length-map}
 use Rattle.std.proofs.shelf.Signed.{ofZ-toZ}
 use Rattle.cells.specs.Refusals.{Refusal}
 use Rattle.group_by.specs.declared.group_id.GroupIdFault.{GroupIdFault}
-use Rattle.group_by.specs.Counts.{Distinct}
 use Rattle.group_by.specs.Ids.{groupIdRefusal, groupIdFault, idOf}
-use Rattle.group_by.specs.Sets.{setsOf, ordinalOf, greatestOrdinal, forEach, faultAt, firstSome, setsFault, idAt, ids, Over}
+use Rattle.group_by.specs.Sets.{setsOf, ordinalOf, greatestOrdinal, forEach, faultAt, firstSome, setsFault, idAt, ids, IdsDiffer}
 use Rattle.group_by.proofs.Numbers.{id-fits}
 use Rattle.group_by.proofs.Ordinals.{marks-at, greatest-within, ids-differ}
 
@@ -69,7 +68,7 @@ id-below sets i few none l =
     id-fits (getD sets i []) (ordinalOf sets i) (greatestOrdinal sets) (omega (arith, greatest-within sets))
     (sym (getD-map-counting (faultAt sets) 0 (length sets) i i None l (omega arith)) ∙ e)
 
-pub ids-distinct : (sets : List (List Bool)) → length sets < 2 ^ 64 → setsFault sets ≡ None → (n : ℕ) → Over n sets → Distinct (ids sets)
+pub ids-distinct : (sets : List (List Bool)) → length sets < 2 ^ 64 → setsFault sets ≡ None → IdsDiffer sets
 ids-distinct sets few none n over i j d l h e =
     let m = length sets in
     let lj : j < m = omega (arith, length-map-counting (idAt sets) 0 m) in

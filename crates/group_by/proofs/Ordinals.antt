@@ -1,8 +1,8 @@
 -- Equal sets counted, the greatest ordinal, and ids that differ.
-use mathlib.Core.Path.{_≡_, refl, sym, ap, _∙_, subst}
+use mathlib.Core.Path.{_≡_, refl, sym, ap, _∙_}
 use mathlib.Core.Bool.{Bool, true, false, cond, Bool·beq, true≢false}
 use mathlib.Core.List.{List, [], _∷_, map}
-use Prim.Native.Nat.{ℕ, zero, suc, max, _+_, _*_, _^_, _≤_, _<_}
+use Prim.Native.Nat.{ℕ, zero, suc, max, _+_, _≤_, _<_}
 use native.Mathlib.Omega.{arith}
 use lib.ListN.{length, take, getD}
 use Rattle.std.specs.Iters.{folded, counting}
@@ -14,7 +14,7 @@ use Rattle.std.specs.shelf.Lists.{countBy}
 use Rattle.std.specs.declared.alloc.Global.{Global}
 use Rattle.std.specs.declared.vec.Vec.{Vec}
 use Rattle.std.proofs.shelf.Equals.{matches-decides}
-use Rattle.std.proofs.shelf.Lists.{getD-map, take-map, take-take, length-map, length-take}
+use Rattle.std.proofs.shelf.Lists.{getD-map, take-map, take-take, length-take}
 use Rattle.std.proofs.shelf.Sums.{sumBy-cons, sumBy-take-le, folded-push, countBy-more-yes, countBy-le-length}
 use Rattle.std.proofs.shelf.Counted.{map-counting-more}
 use Rattle.std.proofs.shelf.Tests.{and-parts, and-from}

@@ -65,8 +65,12 @@ setsFault sets = firstSome (forEach sets (faultAt sets))
 abbrev pub Over : ℕ → List (List Bool) → Type 0
 Over n sets = (i : ℕ) → i < length sets → length (getD sets i []) ≡ n
 
--- the ids of the sets, no two the same over one number of columns; or why there are none
+-- over one number of columns no two sets have the same id
+abbrev pub IdsDiffer : List (List Bool) → Type 0
+IdsDiffer sets = (n : ℕ) → Over n sets → Distinct (ids sets)
+
+-- the ids of the sets, or why there are none; memory is asked for once every set has an id
 abbrev pub HasIds : List (List Bool) → Result (Vec ℤ Global) GroupByFault → Type 0
-HasIds sets (Ok v) = (setsFault sets ≡ None) × (vec-items v ≡ ids sets) × ((n : ℕ) → Over n sets → Distinct (ids sets))
+HasIds sets (Ok v) = (setsFault sets ≡ None) × (vec-items v ≡ ids sets) × IdsDiffer sets
 HasIds sets (Err (Id e)) = setsFault sets ≡ Some (groupIdRefusal e)
 HasIds sets (Err Memory) = setsFault sets ≡ None

@@ -4,7 +4,6 @@
 
 ghost use mathlib.Core.Path.{_≡_};
 ghost use Prim.Native.Nat.{_^_, _<_};
-ghost use lib.ListN.{length};
 ghost use Rattle.std.specs.Options.{mapped};
 ghost use Rattle.group_by.specs.Marks.{digits, Digits, widthOf};
 ghost use Rattle.group_by.specs.Ids.{groupIdRefusal, groupIdFault, groupId, idOf, told};

@@ -3,7 +3,7 @@
 //! Ported from datafusion-physical-plan 55.0.0, src/aggregates/mod.rs, and changed.
 
 ghost use mathlib.Core.Path.{_≡_};
-ghost use Prim.Native.Nat.{_<_, _≤_};
+ghost use Prim.Native.Nat.{_<_};
 ghost use lib.ListN.{length};
 ghost use Rattle.std.specs.Options.{mapped};
 ghost use Rattle.group_by.specs.Ids.{groupIdRefusal};
