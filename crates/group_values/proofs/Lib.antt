@@ -1,0 +1,5 @@
+pub mod Tables
+pub mod Emits
+pub mod Chains
+pub mod Slices
+pub mod Rows

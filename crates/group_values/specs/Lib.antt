@@ -1,0 +1,4 @@
+pub mod Tables
+pub mod Buckets
+pub mod Chains
+pub mod Rows
