@@ -23,8 +23,8 @@ left-drop (First n) xs = elim (cases-lt n (length xs)) [
   | inr h ↦ drop-all n xs h ∙ sym (drop-all (min n (length xs)) xs (omega arith))
 ]
 
-module _ {X Y : Type 0} (f : X → Y) (e : EmitTo) (xs : List X) (held count : ℕ) (within : held ≤ length xs) (drops : count ≡ dropped e held) where
-  shifted : take (held - count) (drop count xs ++ take count xs) ≡ drop count (take held xs)
+module _ {X : Type 0} (e : EmitTo) (xs : List X) (held count : ℕ) (within : held ≤ length xs) (drops : count ≡ dropped e held) where
+  pub shifted : take (held - count) (drop count xs ++ take count xs) ≡ drop count (take held xs)
   shifted =
       let few = dropped-le e held in
       let all : count + (held - count) ≡ held = omega arith in
@@ -32,8 +32,8 @@ module _ {X Y : Type 0} (f : X → Y) (e : EmitTo) (xs : List X) (held count : �
       ∙ sym (drop-take count (held - count) xs)
       ∙ ap (λ (k : ℕ). drop count (take k xs)) all
 
-  pub emit-leaves : map f (take (held - count) (drop count xs ++ take count xs)) ≡ left e (map f (take held xs))
-  emit-leaves =
+  pub emit-leaves : {Y : Type 0} (f : X → Y) → map f (take (held - count) (drop count xs ++ take count xs)) ≡ left e (map f (take held xs))
+  emit-leaves f =
       let len : length (map f (take held xs)) ≡ held = length-map (take held xs) f ∙ length-take-le held xs within in
       ap (map f) shifted
       ∙ sym (drop-map f count (take held xs))

@@ -25,5 +25,5 @@ pub row-emitted : (e : EmitTo) (ks rotated cut : List Key) (held count : ℕ) �
     → rotated ≡ drop count ks ++ take count ks → cut ≡ take (held - count) rotated → map keyCells cut ≡ left e (map keyCells ks)
 row-emitted e ks rotated cut held count h d r t =
     ap (map keyCells) (t ∙ ap (take (held - count)) r)
-    ∙ emit-leaves keyCells e ks held count (omega arith) d
+    ∙ emit-leaves e ks held count (omega arith) d keyCells
     ∙ ap (λ (xs : List Key). left e (map keyCells xs)) (take-all held ks (omega arith))

@@ -1,7 +1,7 @@
 -- What interning does, from where a key was found or that no place holds it; and what keeps keys distinct.
 use mathlib.Core.Path.{_≡_, refl, sym, ap, _∙_}
 use mathlib.Core.Logic.{inl, inr}
-use mathlib.Core.Bool.{Bool, true, false, cond, _&&_}
+use mathlib.Core.Bool.{Bool, true, false, cond, true≢false}
 use mathlib.Core.List.{List, [], _∷_, _++_}
 use Prim.Native.Nat.{ℕ, zero, suc, _+_, _≤_, _<_}
 use native.Mathlib.Omega.{arith}
@@ -17,8 +17,7 @@ use Rattle.cells.specs.Same.{sameKey}
 use Rattle.cells.specs.declared.emit_to.EmitTo.{EmitTo}
 use Rattle.cells.specs.declared.emit_to.EmitTo.the-variants.{All, First}
 use Rattle.cells.proofs.Same.{key-decides}
-use Rattle.group_values.specs.Tables.{placeOf, holds, enters, interned, placed, Distinct}
-use Rattle.group_values.specs.Chains.{Absent}
+use Rattle.group_values.specs.Tables.{placeOf, holds, enters, interned, placed, Distinct, Absent, Admitted}
 
 -- ---- the place of a key
 
@@ -76,6 +75,9 @@ module _ (admitted : List CellOf → Bool) (keys : List (List CellOf)) (key : Li
 
     pub interns-out : admitted key ≡ false → Interns admitted keys key None keys
     interns-out a = by-entering false (and-left (admitted key) (ltb (length keys) 512) a)
+
+pub absent-out : (admitted : List CellOf → Bool) (keys : List (List CellOf)) (key : List CellOf) → Admitted admitted keys → admitted key ≡ false → Absent keys key
+absent-out admitted keys key held out q h e = true≢false (sym (held q h) ∙ ap admitted e ∙ out)
 
 -- ---- distinct keys
 

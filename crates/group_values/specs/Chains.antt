@@ -8,6 +8,7 @@ use Rattle.std.specs.declared.option.Option.{Option}
 use Rattle.std.specs.declared.option.Option.the-variants.{Some, None}
 use Rattle.cells.specs.Rows.{CellOf}
 use Rattle.group_values.specs.Buckets.{bucketOf}
+use Rattle.group_values.specs.Tables.{Absent}
 
 -- the heads and the links once one more place, in bucket b, stands at the head of its chain
 abbrev pub linked : List ℕ × List ℕ → ℕ → List ℕ × List ℕ
@@ -18,9 +19,6 @@ indexOf keys = folded linked (replicate 1024 0, []) (map bucketOf keys)
 
 abbrev pub Indexed : List (List CellOf) → List ℕ → List ℕ → Type 0
 Indexed keys heads next = (heads ≡ indexOf keys .0) × (next ≡ indexOf keys .1)
-
-abbrev pub Absent : List (List CellOf) → List CellOf → Type 0
-Absent keys key = (q : ℕ) → q < length keys → getD keys q [] ≡ key → ⊥
 
 -- some place that holds the key, or none does
 abbrev pub Found : List (List CellOf) → List CellOf → Option ℕ → Type 0

@@ -37,6 +37,10 @@ placed admitted keys key =
 abbrev pub Distinct : List (List CellOf) → Type 0
 Distinct keys = (i j : ℕ) → i < j → j < length keys → getD keys i [] ≡ getD keys j [] → ⊥
 
+-- no place holds the key
+abbrev pub Absent : List (List CellOf) → List CellOf → Type 0
+Absent keys key = (q : ℕ) → q < length keys → getD keys q [] ≡ key → ⊥
+
 -- each key held is admitted
 abbrev pub Admitted : (List CellOf → Bool) → List (List CellOf) → Type 0
 Admitted admitted keys = (i : ℕ) → i < length keys → admitted (getD keys i []) ≡ true

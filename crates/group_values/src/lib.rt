@@ -7,8 +7,13 @@ mod group_values;
 mod hash;
 mod row;
 mod row_table;
+mod slot;
+mod small;
+mod small_table;
 
 pub use group_values::GroupValues;
 pub use group_values::MAX_GROUPS;
 pub use row::RowsGroupValues;
 pub use row_table::GroupValuesRows;
+pub use small::SmallGroupValues;
+pub use small_table::GroupValuesSmall;

@@ -9,9 +9,9 @@ use Rattle.std.specs.declared.option.Option.the-variants.{Some}
 use Rattle.cells.specs.Keys.{keyCells}
 use Rattle.cells.specs.Rows.{CellOf}
 use Rattle.cells.specs.declared.key.Key.{Key}
-use Rattle.group_values.specs.Chains.{Absent, Found, Indexed}
+use Rattle.group_values.specs.Chains.{Found, Indexed}
 use Rattle.group_values.specs.Rows.{rowKeys}
-use Rattle.group_values.specs.Tables.{Distinct}
+use Rattle.group_values.specs.Tables.{Absent, Distinct}
 use Rattle.group_values.proofs.Chains.{heads-length, next-length, indexed-push}
 use Rattle.group_values.proofs.Rows.{row-length, row-pushed}
 use Rattle.group_values.proofs.Tables.{interns-found, interns-new, interns-full, distinct-push}
