@@ -16,6 +16,7 @@ pub enum Wrong {
     Range,
     FewCells,
     ManyCells,
+    LineEnd,
 }
 
 /// Where a file is broken, lines and columns counted from 1.
@@ -34,6 +35,7 @@ pub impl fmt::Display for Wrong as WrongDisplay {
             Wrong::Range => write!(f, "the number does not fit 64 bits"),
             Wrong::FewCells => write!(f, "the line ends before its fifth cell"),
             Wrong::ManyCells => write!(f, "the line has more than five cells"),
+            Wrong::LineEnd => write!(f, "a carriage return stands before no line feed"),
         }
     }
 }
@@ -70,6 +72,8 @@ pub struct SegmentReader {
     reading: Reading,
     row: [Option<i64>; 5],
     cells: usize,
+    /// Whether the last byte was a carriage return, which only a line feed may follow.
+    carriage: bool,
 }
 
 impl SegmentReader {
@@ -82,11 +86,16 @@ impl SegmentReader {
             reading: Reading::Empty,
             row: [None; 5],
             cells: 0,
+            carriage: false,
         }
     }
 
     /// One byte more; a row, if it ends one.
     pub fn feed(&mut self, byte: u8) -> Result<Option<[Option<i64>; 5]>, Fault> {
+        if self.carriage && byte != b'\n' {
+            return Err(self.fault(Wrong::LineEnd));
+        }
+        self.carriage = byte == b'\r';
         let row = if self.header <= HEADER.len() {
             self.feed_header(byte)?;
             None
@@ -105,11 +114,19 @@ impl SegmentReader {
 
     /// The file is at its end; the row of a last line that no line feed ends.
     pub fn finish(&mut self) -> Result<Option<[Option<i64>; 5]>, Fault> {
-        if self.column == 1 && self.header > HEADER.len() { Ok(None) } else { self.feed(b'\n') }
+        if self.column == 1 && self.header > HEADER.len() {
+            Ok(None)
+        } else {
+            self.feed(b'\n')
+        }
     }
 
     fn fault(&self, wrong: Wrong) -> Fault {
-        Fault { line: self.line, column: self.column, wrong }
+        Fault {
+            line: self.line,
+            column: self.column,
+            wrong,
+        }
     }
 
     fn feed_header(&mut self, byte: u8) -> Result<(), Fault> {
@@ -172,7 +189,11 @@ impl SegmentReader {
     }
 
     fn range(&self) -> Fault {
-        Fault { line: self.line, column: self.begins, wrong: Wrong::Range }
+        Fault {
+            line: self.line,
+            column: self.begins,
+            wrong: Wrong::Range,
+        }
     }
 
     fn end_cell(&mut self) -> Result<(), Fault> {
@@ -180,7 +201,10 @@ impl SegmentReader {
             Reading::Empty => None,
             Reading::Minus => return Err(self.fault(Wrong::Number)),
             Reading::Digits { minus: true, value } => Some(value),
-            Reading::Digits { minus: false, value } => {
+            Reading::Digits {
+                minus: false,
+                value,
+            } => {
                 let Some(positive) = value.checked_neg() else {
                     return Err(self.range());
                 };
