@@ -1,13 +1,11 @@
 -- The index of the small table: what it says of the keys, and that it stays so when a slot is added.
 use mathlib.Core.Path.{_≡_, refl, sym, ap, _∙_, subst}
 use mathlib.Core.Logic.{inl, inr}
-use mathlib.Core.Bool.{true, false}
+use mathlib.Core.Bool.{true}
 use mathlib.Core.List.{List, [], _∷_, _++_, map}
 use Prim.Native.Nat.{ℕ, zero, suc, _+_, _-_, _≤_, _<_}
 use native.Mathlib.Omega.{arith}
-use lib.IntN.{pos}
 use lib.ListN.{length, getD, set, take, replicate}
-use Rattle.std.specs.declared.option.Option.the-variants.{Some, None}
 use Rattle.std.proofs.shelf.Lists.{length-push, length-set, length-map, getD-append-left, getD-push, getD-set-same, getD-set-other, getD-map, getD-past, getD-replicate, getD-take, length-take-le, take-more}
 use Rattle.std.proofs.shelf.Tests.{cases-lt, cases-eq, le-leb}
 use Rattle.cells.specs.Rows.{CellOf}

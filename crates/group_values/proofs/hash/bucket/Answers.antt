@@ -1,7 +1,5 @@
-use mathlib.Core.List.{List}
 use mathlib.Core.Path.{_≡_, _∙_, ap, sym, subst}
 use Prim.Native.Nat.{ℕ, _/_, _^_, _<_}
-use Rattle.cells.specs.Rows.{CellOf}
 use Rattle.group_values.specs.Buckets.{spread, bucketOf}
 use Rattle.group_values.proofs.Chains.{bucket-below}
 use Rattle.group_values.proofs.hash.bucket.Needs as need

@@ -1,13 +1,12 @@
 use mathlib.Core.List.{[], _∷_, _++_}
 use mathlib.Core.Path.{_≡_, sym, ap, _∙_, subst}
-use Prim.Native.Nat.{ℕ, _-_}
+use Prim.Native.Nat.{_-_}
 use native.Mathlib.Omega.{arith}
-use lib.ListN.{length, getD, take}
+use lib.ListN.{getD, take}
 use Rattle.std.specs.declared.option.Option.the-variants.{Some}
 use Rattle.std.proofs.shelf.Lists.{length-set}
 use Rattle.cells.specs.Keys.{keyCells}
-use Rattle.cells.specs.Rows.{CellOf}
-use Rattle.group_values.specs.Slots.{smallKey, slotKey}
+use Rattle.group_values.specs.Slots.{smallKey}
 use Rattle.group_values.specs.Smalls.{smallKeys}
 use Rattle.group_values.specs.Tables.{Absent}
 use Rattle.group_values.proofs.Slots.{slot-small, slots-distinct, slots-admitted, slots-found, slots-absent}
