@@ -91,18 +91,18 @@ module _ (bs heads next : List ℕ) (b : ℕ) (below : b < 1024) (ch : Chained b
         λ p P. next-link p (omega (arith, len)),
       )
 
+  chained-linked : Chained more (linked (heads, next) b .0) (linked (heads, next) b .1)
+  chained-linked = subst (λ (k : ℕ). Chained more (set heads b (k + 1)) (next ++ getD heads b 0 ∷ [])) (sym (ch .1)) chained-push
+
 -- ---- a whole list
 
 chained-more : (bs done heads next : List ℕ) → Chained done heads next → All (λ b. b < 1024) bs
     → Chained (done ++ bs) (folded linked (heads, next) bs .0) (folded linked (heads, next) bs .1)
 chained-more [] done heads next ch h = subst (λ (x : List ℕ). Chained x heads next) (sym (append-nil done)) ch
 chained-more (b ∷ bs) done heads next ch h =
-    let step : Chained (done ++ b ∷ []) (linked (heads, next) b .0) (linked (heads, next) b .1) =
-    subst (λ (k : ℕ). Chained (done ++ b ∷ []) (set heads b (k + 1)) (next ++ getD heads b 0 ∷ [])) (sym (ch .1))
-    (chained-push done heads next b (h .0) ch) in
     subst (λ (x : List ℕ). Chained x (folded linked (linked (heads, next) b) bs .0) (folded linked (linked (heads, next) b) bs .1))
     (append-assoc done (b ∷ []) bs)
-    (chained-more bs (done ++ b ∷ []) (linked (heads, next) b .0) (linked (heads, next) b .1) step (h .1))
+    (chained-more bs (done ++ b ∷ []) (linked (heads, next) b .0) (linked (heads, next) b .1) (chained-linked done heads next b (h .0) ch) (h .1))
 
 chained-none : Chained [] (replicate 1024 0) []
 chained-none = (

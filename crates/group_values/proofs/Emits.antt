@@ -12,7 +12,7 @@ use Rattle.cells.specs.declared.emit_to.EmitTo.{EmitTo}
 use Rattle.cells.specs.declared.emit_to.EmitTo.the-variants.{All, First}
 use Rattle.group_values.specs.Tables.{dropped}
 
-pub dropped-le : (e : EmitTo) (n : ℕ) → dropped e n ≤ n
+dropped-le : (e : EmitTo) (n : ℕ) → dropped e n ≤ n
 dropped-le All n = omega arith
 dropped-le (First m) n = omega arith
 
