@@ -2,7 +2,7 @@
 use mathlib.Core.Path.{_≡_, refl, sym, ap, _∙_, subst}
 use mathlib.Core.Logic.{inl, inr}
 use mathlib.Core.List.{List, [], _∷_, _++_, map, append-assoc, append-nil}
-use Prim.Native.Nat.{ℕ, _+_, _-_, _*_, _%_, _^_, _≤_, _<_}
+use Prim.Native.Nat.{ℕ, _+_, _-_, _*_, _^_, _≤_, _<_}
 use native.Mathlib.Omega.{arith}
 use lib.Dec.{lit<}
 use lib.ListN.{length, getD, set, replicate}
@@ -91,18 +91,18 @@ module _ (bs heads next : List ℕ) (b : ℕ) (below : b < 1024) (ch : Chained b
         λ p P. next-link p (omega (arith, len)),
       )
 
+  chained-linked : Chained more (linked (heads, next) b .0) (linked (heads, next) b .1)
+  chained-linked = subst (λ (k : ℕ). Chained more (set heads b (k + 1)) (next ++ getD heads b 0 ∷ [])) (sym (ch .1)) chained-push
+
 -- ---- a whole list
 
 chained-more : (bs done heads next : List ℕ) → Chained done heads next → All (λ b. b < 1024) bs
     → Chained (done ++ bs) (folded linked (heads, next) bs .0) (folded linked (heads, next) bs .1)
 chained-more [] done heads next ch h = subst (λ (x : List ℕ). Chained x heads next) (sym (append-nil done)) ch
 chained-more (b ∷ bs) done heads next ch h =
-    let step : Chained (done ++ b ∷ []) (linked (heads, next) b .0) (linked (heads, next) b .1) =
-    subst (λ (k : ℕ). Chained (done ++ b ∷ []) (set heads b (k + 1)) (next ++ getD heads b 0 ∷ [])) (sym (ch .1))
-    (chained-push done heads next b (h .0) ch) in
     subst (λ (x : List ℕ). Chained x (folded linked (linked (heads, next) b) bs .0) (folded linked (linked (heads, next) b) bs .1))
     (append-assoc done (b ∷ []) bs)
-    (chained-more bs (done ++ b ∷ []) (linked (heads, next) b .0) (linked (heads, next) b .1) step (h .1))
+    (chained-more bs (done ++ b ∷ []) (linked (heads, next) b .0) (linked (heads, next) b .1) (chained-linked done heads next b (h .0) ch) (h .1))
 
 chained-none : Chained [] (replicate 1024 0) []
 chained-none = (
@@ -181,15 +181,23 @@ module _ (keys : List (List CellOf)) (heads next : List ℕ) (key : List CellOf)
 
 -- ---- one more key
 
-pub indexed-push : (keys : List (List CellOf)) (key : List CellOf) (b : ℕ) (heads next heads′ next′ : List ℕ)
-    → b ≡ bucketOf key → heads′ ≡ set heads b (length next + 1) → next′ ≡ next ++ getD heads b 0 ∷ []
-    → Indexed keys heads next → Indexed (keys ++ key ∷ []) heads′ next′
-indexed-push keys key b heads next heads′ next′ eb eh en ix =
-    let I = indexOf keys in
-    let p : indexOf (keys ++ key ∷ []) ≡ linked I b =
+index-more : (keys : List (List CellOf)) (key : List CellOf) → indexOf (keys ++ key ∷ []) ≡ linked (indexOf keys) (bucketOf key)
+index-more keys key =
     ap (λ (bs : List ℕ). folded linked (replicate 1024 0, []) bs) (map-push bucketOf keys key)
     ∙ folded-push linked (replicate 1024 0, []) (map bucketOf keys) (bucketOf key)
-    ∙ ap (λ (x : ℕ). linked I x) (sym eb) in (
-      eh ∙ ap (λ (h : List ℕ). set h b (length next + 1)) (ix .0) ∙ ap (λ (t : List ℕ). set (I .0) b (length t + 1)) (ix .1) ∙ sym (ap (λ (x : List ℕ × List ℕ). x .0) p),
-      en ∙ ap (λ (h : List ℕ). next ++ getD h b 0 ∷ []) (ix .0) ∙ ap (λ (t : List ℕ). t ++ getD (I .0) b 0 ∷ []) (ix .1) ∙ sym (ap (λ (x : List ℕ × List ℕ). x .1) p),
+
+pub indexed-push : (keys more : List (List CellOf)) (key : List CellOf) (b n : ℕ) (heads next heads′ next′ : List ℕ)
+    → more ≡ keys ++ key ∷ [] → b ≡ bucketOf key → n ≡ length next → heads′ ≡ set heads b (n + 1) → next′ ≡ next ++ getD heads b 0 ∷ []
+    → Indexed keys heads next → Indexed more heads′ next′
+indexed-push keys more key b n heads next heads′ next′ em eb el eh en ix =
+    let I = indexOf keys in
+    let p : indexOf more ≡ linked I b = ap indexOf em ∙ index-more keys key ∙ ap (λ (x : ℕ). linked I x) (sym eb) in (
+      eh
+          ∙ ap (λ (k : ℕ). set heads b (k + 1)) (el ∙ ap length (ix .1))
+          ∙ ap (λ (h : List ℕ). set h b (length (I .1) + 1)) (ix .0)
+          ∙ sym (ap (λ (x : List ℕ × List ℕ). x .0) p),
+      en
+          ∙ ap (λ (h : List ℕ). next ++ getD h b 0 ∷ []) (ix .0)
+          ∙ ap (λ (t : List ℕ). t ++ getD (I .0) b 0 ∷ []) (ix .1)
+          ∙ sym (ap (λ (x : List ℕ × List ℕ). x .1) p),
     )

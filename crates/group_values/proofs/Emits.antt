@@ -1,5 +1,5 @@
 -- A rotation and a cut leave what an emission leaves.
-use mathlib.Core.Path.{_≡_, refl, sym, ap, _∙_}
+use mathlib.Core.Path.{_≡_, sym, ap, _∙_}
 use mathlib.Core.Logic.{inl, inr}
 use mathlib.Core.List.{List, _++_, map}
 use Prim.Native.Nat.{ℕ, min, _+_, _-_, _≤_}
@@ -12,7 +12,7 @@ use Rattle.cells.specs.declared.emit_to.EmitTo.{EmitTo}
 use Rattle.cells.specs.declared.emit_to.EmitTo.the-variants.{All, First}
 use Rattle.group_values.specs.Tables.{dropped}
 
-pub dropped-le : (e : EmitTo) (n : ℕ) → dropped e n ≤ n
+dropped-le : (e : EmitTo) (n : ℕ) → dropped e n ≤ n
 dropped-le All n = omega arith
 dropped-le (First m) n = omega arith
 

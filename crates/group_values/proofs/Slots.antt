@@ -1,14 +1,12 @@
 -- The index of the small table: what it says of the keys, and that it stays so when a slot is added.
 use mathlib.Core.Path.{_≡_, refl, sym, ap, _∙_, subst}
 use mathlib.Core.Logic.{inl, inr}
-use mathlib.Core.Bool.{true, false}
+use mathlib.Core.Bool.{true}
 use mathlib.Core.List.{List, [], _∷_, _++_, map}
 use Prim.Native.Nat.{ℕ, zero, suc, _+_, _-_, _≤_, _<_}
 use native.Mathlib.Omega.{arith}
-use lib.IntN.{pos}
-use lib.ListN.{length, getD, set, take, replicate}
-use Rattle.std.specs.declared.option.Option.the-variants.{Some, None}
-use Rattle.std.proofs.shelf.Lists.{length-push, length-set, length-map, getD-append-left, getD-push, getD-set-same, getD-set-other, getD-map, getD-past, getD-replicate, getD-take, length-take-le, take-more}
+use lib.ListN.{length, getD, set, take, drop, replicate}
+use Rattle.std.proofs.shelf.Lists.{length-push, length-set, length-map, getD-append-left, getD-push, getD-set-same, getD-set-other, getD-map, getD-past, getD-replicate, getD-take, getD-drop, length-drop, length-take-le, take-more}
 use Rattle.std.proofs.shelf.Tests.{cases-lt, cases-eq, le-leb}
 use Rattle.cells.specs.Rows.{CellOf}
 use Rattle.group_values.specs.Slots.{smallKey, slotKey, filled, Below, SlotIndex}
@@ -28,6 +26,9 @@ slot-small (suc s) h = le-leb s 63 (omega arith)
 
 key-at : (slots : List ℕ) (p : ℕ) → p < length slots → getD (map slotKey slots) p [] ≡ slotKey (getD slots p 0)
 key-at slots p h = getD-map slotKey slots p 0 [] h
+
+pub below-drop : (slots : List ℕ) (n : ℕ) → Below slots → Below (drop n slots)
+below-drop slots n below p h = subst (λ (s : ℕ). s < 65) (sym (getD-drop n slots p 0)) (below (n + p) (omega (arith, length-drop n slots)))
 
 -- ---- how many links are filled
 
@@ -56,9 +57,10 @@ module _ (slots links : List ℕ) (ix : SlotIndex slots links) where
 
   pub slots-distinct : Distinct keys
   slots-distinct i j l h e =
-      let same : getD slots i 0 ≡ getD slots j 0 =
-      slot-injective (getD slots i 0) (getD slots j 0) (sym (key-at slots i (omega (arith, even))) ∙ e ∙ key-at slots j (omega (arith, even))) in
-      let places : i + 1 ≡ j + 1 = sym (ix .2 i (omega (arith, even))) ∙ ap (λ (s : ℕ). getD links s 0) same ∙ ix .2 j (omega (arith, even)) in
+      let li : i < length slots = omega (arith, even) in
+      let lj : j < length slots = omega (arith, even) in
+      let same = slot-injective (getD slots i 0) (getD slots j 0) (sym (key-at slots i li) ∙ e ∙ key-at slots j lj) in
+      let places : i + 1 ≡ j + 1 = sym (ix .2 i li) ∙ ap (λ (s : ℕ). getD links s 0) same ∙ ix .2 j lj in
       omega arith
 
   pub slots-admitted : Admitted smallKey keys

@@ -4,7 +4,7 @@ use mathlib.Core.List.{List, [], _∷_, _++_, map}
 use Prim.Native.Nat.{ℕ, _+_, _-_, _≤_, _<_}
 use native.Mathlib.Omega.{arith}
 use lib.ListN.{length, getD, set, take, drop}
-use Rattle.std.proofs.shelf.Lists.{length-map, length-take-le, length-drop, getD-drop, take-more-set, map-push}
+use Rattle.std.proofs.shelf.Lists.{length-map, length-take-le, take-more-set, map-push}
 use Rattle.cells.specs.Emits.{left}
 use Rattle.cells.specs.declared.emit_to.EmitTo.{EmitTo}
 use Rattle.group_values.specs.Slots.{slotKey, Below, SlotIndex}
@@ -12,7 +12,7 @@ use Rattle.group_values.specs.Smalls.{smallKeys}
 use Rattle.group_values.specs.Tables.{Distinct, dropped}
 use Rattle.group_values.specs.declared.small_table.GroupValuesSmall.{GroupValuesSmall}
 use Rattle.group_values.proofs.Emits.{shifted, emit-leaves}
-use Rattle.group_values.proofs.Slots.{index-push, slots-distinct, slots-room}
+use Rattle.group_values.proofs.Slots.{below-drop, index-push, slots-distinct, slots-room}
 use Rattle.group_values.proofs.Tables.{distinct-left}
 
 module _ (t : GroupValuesSmall) where
@@ -42,10 +42,7 @@ module _ (t : GroupValuesSmall) where
 
     pub emitted-below : Below (take n rotated)
     emitted-below =
-        let held = take (t .len) (t .slots) in
-        let old : Below (drop count held) = λ p h.
-        subst (λ (s : ℕ). s < 65) (sym (getD-drop count held p 0)) (t .below (count + p) (omega (arith, length-drop count held))) in
-        subst Below (sym (front ∙ shifted e (t .slots) (t .len) count within drops)) old
+        subst Below (sym (front ∙ shifted e (t .slots) (t .len) count within drops)) (below-drop (take (t .len) (t .slots)) count (t .below))
 
   module _ (s : ℕ) (below : s < 65) (free : getD (t .links) s 0 ≡ 0) where
     pub small-room : t .len < 65

@@ -20,8 +20,10 @@ pub const MAX_GROUPS: usize = 512;
 
 /// A list of distinct keys, in the order first seen.
 pub trait GroupValues {
+    // The keys held, in the order first seen.
     ghost keys: { Self → List (List CellOf) };
 
+    // The keys that this kind of table takes in.
     ghost admitted: { List CellOf → Bool };
 
     law distinct: { (s : Self) → Distinct (keys s) };

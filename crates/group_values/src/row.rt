@@ -1,4 +1,4 @@
-//! The calls of the row table.
+//! The calls of the row table, which has the part of src/aggregates/group_values/row.rs in datafusion-physical-plan 55.0.0.
 
 ghost use mathlib.Core.Path.{_≡_};
 ghost use mathlib.Core.Bool.{true};

@@ -1,4 +1,4 @@
-//! The calls of the small table.
+//! The calls of the small table, which has the part of the single-column tables of datafusion-physical-plan 55.0.0, src/aggregates/group_values/single_group_by.
 
 ghost use mathlib.Core.Path.{_≡_};
 ghost use mathlib.Core.List.{[]};

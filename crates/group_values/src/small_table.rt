@@ -6,7 +6,7 @@ ghost use lib.ListN.{length, take};
 ghost use Rattle.group_values.specs.Slots.{Below, Counted, Leads, Linked};
 
 /// Admits keys of one cell that is absent or 0 to 63, and finds them by index.
-#[derive(Clone, Copy)]
+#[derive(Drop)]
 pub struct GroupValuesSmall {
     /// The slots of the keys held, in the order first seen.
     pub(crate) slots: [u8; 65],

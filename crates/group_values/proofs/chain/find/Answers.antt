@@ -1,9 +1,9 @@
 use mathlib.Core.Bool.{true≢false}
-use mathlib.Core.List.{List, [], map}
-use mathlib.Core.Path.{_≡_, _∙_, sym}
-use Prim.Native.Nat.{ℕ, _-_, _<_}
+use mathlib.Core.List.{map}
+use mathlib.Core.Path.{_∙_, sym}
+use Prim.Native.Nat.{_-_, _<_}
 use native.Mathlib.Omega.{arith}
-use lib.ListN.{length, getD}
+use lib.ListN.{length}
 use Rattle.std.proofs.shelf.Lists.{length-map}
 use Rattle.cells.specs.Keys.{keyCells}
 use Rattle.group_values.proofs.Chains.{heads-length, walk-start, walk-next, next-within, next-below}

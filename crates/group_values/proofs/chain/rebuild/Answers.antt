@@ -1,11 +1,10 @@
 use mathlib.Core.List.{List, map}
-use mathlib.Core.Path.{_≡_, refl, ap, sym, _∙_, subst}
+use mathlib.Core.Path.{refl, ap, _∙_, subst}
 use Prim.Native.Nat.{ℕ, _+_}
-use lib.ListN.{length, replicate, set, take}
+use lib.ListN.{replicate, take}
 use Rattle.std.specs.Of.Vec.{vec-items, vec-len}
 use Rattle.std.proofs.shelf.Lists.{take-all}
 use Rattle.cells.specs.Keys.{keyCells}
-use Rattle.cells.specs.Rows.{CellOf}
 use Rattle.cells.specs.declared.key.Key.{Key}
 use Rattle.group_values.specs.Chains.{Indexed}
 use Rattle.group_values.proofs.Chains.{indexed-push}
@@ -23,15 +22,10 @@ pub loop-key-again : need.loop-key-again
 loop-key-again c =
     let ks = c .args .keys .now in
     let i = c .loop-key .key-index in
-    let heads = c .add-link .last .heads in
-    let next = vec-items (c .add-link .last .next) in
-    let e : vec-len (c .loop-key .next) ≡ length (vec-items (c .loop-key .next)) = c .loop-key .next .ok .0 in
-    let pushed = indexed-push (map keyCells (take i ks)) (keyCells (c .key-item .result)) (c .bucket .result) (c .loop-key .heads) (vec-items (c .loop-key .next)) heads next
-    (c .bucket .ensures .is)
-    (c .add-link .ensures .heads ∙ ap (λ (n : ℕ). set (c .loop-key .heads) (c .bucket .result) (n + 1)) e)
-    (c .add-link .ensures .next)
-    (c .loop-key .inv .0) in (
-      subst (λ (keys : List (List CellOf)). Indexed keys heads next) (sym (cells-more ks i (c .key-item .result) (c .loop-key-test .taken) (c .key-item .is))) pushed,
+    let k = c .key-item .result in (
+      indexed-push (map keyCells (take i ks)) (map keyCells (take (i + 1) ks)) (keyCells k) (c .bucket .result) (vec-len (c .loop-key .next)) (c .loop-key .heads)
+          (vec-items (c .loop-key .next)) (c .add-link .last .heads) (vec-items (c .add-link .last .next)) (cells-more ks i k (c .loop-key-test .taken) (c .key-item .is))
+          (c .bucket .ensures .is) (c .loop-key .next .ok .0) (c .add-link .ensures .heads) (c .add-link .ensures .next) (c .loop-key .inv .0),
       c .add-link .ensures .len ∙ ap (λ (n : ℕ). n + 1) (c .loop-key .inv .1),
       c .add-link .ensures .capacity ∙ c .loop-key .inv .2,
     )

@@ -1,5 +1,5 @@
 use mathlib.Core.List.{List}
-use mathlib.Core.Path.{_≡_, subst}
+use mathlib.Core.Path.{subst}
 use Prim.Native.Nat.{ℕ}
 use Rattle.std.proofs.shelf.Lists.{take-all}
 use Rattle.group_values.specs.Slots.{SlotIndex}

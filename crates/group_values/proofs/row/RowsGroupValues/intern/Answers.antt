@@ -1,15 +1,14 @@
 use mathlib.Core.Bool.{true}
-use mathlib.Core.List.{List, [], _∷_, _++_, map}
+use mathlib.Core.List.{List, map}
 use mathlib.Core.Path.{_≡_, refl, sym, ap, _∙_, subst}
-use Prim.Native.Nat.{ℕ, _+_, _≤_, _<_}
+use Prim.Native.Nat.{_≤_, _<_}
 use native.Mathlib.Omega.{arith}
-use lib.ListN.{length, set}
+use lib.ListN.{length}
 use Rattle.std.specs.Of.Vec.{vec-items, vec-len}
 use Rattle.std.specs.declared.option.Option.the-variants.{Some}
 use Rattle.cells.specs.Keys.{keyCells}
-use Rattle.cells.specs.Rows.{CellOf}
 use Rattle.cells.specs.declared.key.Key.{Key}
-use Rattle.group_values.specs.Chains.{Found, Indexed}
+use Rattle.group_values.specs.Chains.{Found}
 use Rattle.group_values.specs.Rows.{rowKeys}
 use Rattle.group_values.specs.Tables.{Absent, Distinct}
 use Rattle.group_values.proofs.Chains.{heads-length, next-length, indexed-push}
@@ -48,17 +47,12 @@ pub ghost-self-2 : need.ghost-self-2
 ghost-self-2 c =
     let t = c .args .self .now in
     let key = keyCells (c .args .key .now) in
-    let pushed = row-pushed (vec-items (t .keys)) (vec-items (c .push-reserved .last .self)) (c .args .key .now) (c .push-reserved .ensures .items) in
-    let heads = c .add-link .last .heads in
-    let next = vec-items (c .add-link .last .next) in
-    let ix = indexed-push (rowKeys t) key (c .bucket .result) (t .heads) (vec-items (t .next)) heads next
-    (c .bucket .ensures .is)
-    (c .add-link .ensures .heads ∙ ap (λ (n : ℕ). set (t .heads) (c .bucket .result) (n + 1)) (t .next .ok .0))
-    (c .add-link .ensures .next)
-    (t .indexed) in (
+    let pushed = row-pushed (vec-items (t .keys)) (vec-items (c .push-reserved .last .self)) (c .args .key .now) (c .push-reserved .ensures .items) in (
       subst Distinct (sym pushed) (distinct-push (rowKeys t) key (t .apart) (absent (at·ghost-self-2 c .In-rest))),
       (
-        subst (λ (keys : List (List CellOf)). Indexed keys heads next) (sym pushed) ix,
+        indexed-push (rowKeys t) (map keyCells (vec-items (c .push-reserved .last .self))) key (c .bucket .result) (vec-len (t .next)) (t .heads)
+            (vec-items (t .next)) (c .add-link .last .heads) (vec-items (c .add-link .last .next)) pushed
+            (c .bucket .ensures .is) (t .next .ok .0) (c .add-link .ensures .heads) (c .add-link .ensures .next) (t .indexed),
         (
           (
             omega (arith, c .push-reserved .ensures .len, c .len-place .ensures, c .if-place-ge-MAX-GROUPS .left),

@@ -1,5 +1,5 @@
 use mathlib.Core.List.{List, map}
-use mathlib.Core.Path.{_≡_, ap, sym, _∙_, subst}
+use mathlib.Core.Path.{ap, sym, _∙_, subst}
 use native.Mathlib.Omega.{arith}
 use Rattle.cells.specs.Keys.{keyCells}
 use Rattle.cells.specs.declared.key.Key.{Key}

@@ -1,13 +1,12 @@
 use mathlib.Core.List.{[], _∷_, _++_}
 use mathlib.Core.Path.{_≡_, sym, ap, _∙_, subst}
-use Prim.Native.Nat.{ℕ, _-_}
+use Prim.Native.Nat.{_-_, _<_}
 use native.Mathlib.Omega.{arith}
 use lib.ListN.{length, getD, take}
 use Rattle.std.specs.declared.option.Option.the-variants.{Some}
 use Rattle.std.proofs.shelf.Lists.{length-set}
 use Rattle.cells.specs.Keys.{keyCells}
-use Rattle.cells.specs.Rows.{CellOf}
-use Rattle.group_values.specs.Slots.{smallKey, slotKey}
+use Rattle.group_values.specs.Slots.{smallKey}
 use Rattle.group_values.specs.Smalls.{smallKeys}
 use Rattle.group_values.specs.Tables.{Absent}
 use Rattle.group_values.proofs.Slots.{slot-small, slots-distinct, slots-admitted, slots-found, slots-absent}
@@ -29,9 +28,11 @@ returns-then-link-gt0 c =
     let t = c .args .self .now in
     let slots = take (t .len) (t .slots) in
     let s = c .in-Continue-slot .slot in
+    let key = keyCells (c .args .key .now) in
     let found = slots-found slots (t .links) (small-index t) s (c .if-link-gt0 .taken) in
-    let i = interns-found smallKey (smallKeys t) (keyCells (c .args .key .now)) (getD (t .links) s 0 - 1) (slots-distinct slots (t .links) (small-index t))
-    (found .0) (found .1 ∙ sym (c .in-Continue-slot .ensures tt .1)) in
+    let held = found .1 ∙ sym (c .in-Continue-slot .ensures tt .1) in
+    let apart = slots-distinct slots (t .links) (small-index t) in
+    let i = interns-found smallKey (smallKeys t) key (getD (t .links) s 0 - 1) apart (found .0) held in
     record { answer = sym (i .0); after = sym (i .1) }
 
 pub index-self-place : need.index-self-place
@@ -53,10 +54,11 @@ returns c =
     let s = c .in-Continue-slot .slot in
     let small = c .in-Continue-slot .ensures tt in
     let free : getD (t .links) s 0 ≡ 0 = omega (arith, c .if-link-gt0 .left) in
+    let key = keyCells (c .args .key .now) in
     let same = small .1 in
     let absent = subst (Absent (smallKeys t)) (sym same) (slots-absent (take (t .len) (t .slots)) (t .links) (small-index t) s free) in
-    let i = interns-new smallKey (smallKeys t) (keyCells (c .args .key .now)) absent (ap smallKey same ∙ slot-small s (small .0))
-    (omega (arith, small-length t, t .sized .1)) in
+    let few : length (smallKeys t) < 512 = omega (arith, small-length t, t .sized .1) in
+    let i = interns-new smallKey (smallKeys t) key absent (ap smallKey same ∙ slot-small s (small .0)) few in
     record {
       answer = ap Some (sym (small-length t)) ∙ sym (i .0);
       after = small-keys-push t s (small .0) free ∙ ap (λ k. smallKeys t ++ k ∷ []) (sym same) ∙ sym (i .1);
