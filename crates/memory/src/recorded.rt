@@ -4,7 +4,9 @@ ghost use mathlib.Core.Path.{_≡_};
 ghost use Rattle.memory.specs.Recorded.{recordedNew, recordedAsks, grants, asked};
 use crate::reservation::MemoryReservation;
 
-/// Answers the growths by the bits of a word, the lowest first, where 1 grants; grants those after the 64th, and whatever is no growth.
+/// Answers the growths by the bits of a word, the lowest first, where 1 grants.
+///
+/// It grants the growths after the 64th, and whatever is no growth.
 #[derive(Debug, Drop)]
 pub struct RecordedReservation {
     word: u64,
