@@ -49,7 +49,9 @@ impl GroupByKeys {
         self.group_by.groups.len()
     }
 
-    /// The key of a row for a grouping set, as far as a key goes. A row past the last has no cells, and a set past the last no marks and the id 0.
+    /// The key of a row for a grouping set, as far as a key goes.
+    ///
+    /// A row past the last has no cells, and a set past the last no marks and the id 0.
     pub fn evaluate_group_by(&self, batch: &Batch<'_, '_>, row: usize, set: usize) -> Key
         ensures { λ r. ⌜ keyCells r ≡ take 7 (keyOf (keysOf (now (self .entry))) set (getD (viewRows (now (batch .entry))) row [])) ⌝ }
     {

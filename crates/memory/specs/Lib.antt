@@ -1,0 +1,4 @@
+pub mod Resizes
+pub mod Bounded
+pub mod Recorded
+pub mod Peaks
