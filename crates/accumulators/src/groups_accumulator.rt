@@ -1,4 +1,4 @@
-//! The states of every held group.
+//! What every accumulator promises, under the names of DataFusion's `GroupsAccumulator`.
 
 ghost use mathlib.Core.Path.{_≡_};
 ghost use mathlib.Core.List.{List, []};
