@@ -38,10 +38,11 @@ fn split_exprs<A: GroupsAccumulator>(
     exprs.split_at(A::aggregates().min(named))
 }
 
-pub impl<P: GroupsAccumulator, Q: GroupsAccumulator> GroupsAccumulator for PairGroupsAccumulator<
-    P,
-    Q,
-> as PairGroups {
+pub impl<P, Q> GroupsAccumulator for PairGroupsAccumulator<P, Q> as PairGroups
+where
+    P: GroupsAccumulator,
+    Q: GroupsAccumulator,
+{
     type State = (P::State, Q::State);
 
     ghost states = { λ p. sideBySide (P·GroupsAccumulator .aggregation .neutral) (Q·GroupsAccumulator .aggregation .neutral) (P·GroupsAccumulator .states (p .first)) (Q·GroupsAccumulator .states (p .second)) };
