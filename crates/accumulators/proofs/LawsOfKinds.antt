@@ -55,7 +55,7 @@ module _ (f : ℤ → ℤ → ℤ) (assoc : (a b c : ℤ) → f (f a b) c ≡ f 
   cutCell-is None p = refl
   cutCell-is (Some v) p = ap Some (cut-fits v p)
 
-  pub value-lawful : LawfulKind (valueKind f)
+  value-lawful : LawfulKind (valueKind f)
   value-lawful = record {
     assoc = joinCells-assoc;
     neutral-left = λ a p. refl;

@@ -1,12 +1,12 @@
 -- Two lawful aggregations side by side are lawful.
-use mathlib.Core.Path.{_≡_, refl, sym, ap, _∙_}
+use mathlib.Core.Path.{_≡_, ap, _∙_}
 use native.Mathlib.Omega.{arith}
 use Rattle.std.specs.declared.option.Option.the-variants.{None}
 use Rattle.std.proofs.shelf.Elements.{all-take, all-drop}
 use Rattle.std.proofs.shelf.Lists.{length-append, take-at, drop-at}
 use Rattle.accumulators.specs.Arguments.{argumentOf}
 use Rattle.accumulators.specs.Aggregations.{Aggregation, Lawful, paired}
-use Rattle.accumulators.proofs.Besides.{pairs}
+use Rattle.accumulators.proofs.SideBySide.{pairs}
 
 pub pair-lawful : {S T : Type 0} (a : Aggregation S) (b : Aggregation T) → Lawful a → Lawful b → Lawful (paired a b)
 pair-lawful a b l m = record {

@@ -2,6 +2,6 @@ pub mod Sums
 pub mod LawsOfKinds
 pub mod LawsOfPairs
 pub mod Feeding
-pub mod Besides
+pub mod SideBySide
 pub mod Cuts
 pub mod Overlays

@@ -28,8 +28,8 @@ updated a exprs rows places total ss =
     fedFrom a exprs rows (min total 512) 0 (grown (a .neutral) (min total 512) ss) places
 
 -- two lists of states as one, the shorter followed by neutral states
-abbrev pub besides : {S T : Type 0} → S → T → List S → List T → List (S × T)
-besides e f [] [] = []
-besides e f [] (t ∷ ts) = (e, t) ∷ besides e f [] ts
-besides e f (s ∷ ss) [] = (s, f) ∷ besides e f ss []
-besides e f (s ∷ ss) (t ∷ ts) = (s, t) ∷ besides e f ss ts
+abbrev pub sideBySide : {S T : Type 0} → S → T → List S → List T → List (S × T)
+sideBySide e f [] [] = []
+sideBySide e f [] (t ∷ ts) = (e, t) ∷ sideBySide e f [] ts
+sideBySide e f (s ∷ ss) [] = (s, f) ∷ sideBySide e f ss []
+sideBySide e f (s ∷ ss) (t ∷ ts) = (s, t) ∷ sideBySide e f ss ts

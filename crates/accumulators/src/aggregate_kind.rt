@@ -14,6 +14,7 @@ pub trait AggregateKind {
     /// How many cells a state has.
     const STATE_CELLS: usize;
 
+    // What a state is: how two join, what a row's own is, and what is shown of it.
     ghost kind: { Kind Self·State };
 
     law lawful: { LawfulKind kind };

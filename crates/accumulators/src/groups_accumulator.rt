@@ -1,4 +1,4 @@
-//! The states of every held group.
+//! What every accumulator promises, under the names of DataFusion's `GroupsAccumulator`.
 
 ghost use mathlib.Core.Path.{_≡_};
 ghost use mathlib.Core.List.{List, []};
@@ -21,8 +21,10 @@ pub const MAX_GROUPS: usize = 512;
 pub trait GroupsAccumulator {
     type State;
 
+    // One state for each held group, by its place.
     ghost states: { Self → List Self·State };
 
+    // What a state is: how two join, what a row's own is, and what is shown of it.
     ghost aggregation: { Aggregation Self·State };
 
     law lawful: { Lawful aggregation };

@@ -28,6 +28,7 @@ impl<K: AggregateKind> KindGroupsAccumulator<K> {
         Ok(KindGroupsAccumulator { states })
     }
 
+    /// The state of a group; one that is not held is neutral.
     fn held(&self, group: usize) -> K::State
         ensures { λ r. ⌜ r ≡ getD (vec-items (now (self .entry) .states)) group (kind .neutral) ⌝ }
     {
@@ -67,6 +68,7 @@ pub impl<K: AggregateKind> GroupsAccumulator for KindGroupsAccumulator<K> as Kin
     ) {
         let total = total_num_groups.min(MAX_GROUPS);
         if self.states.len() < total {
+            // `new` made the room, so this cannot fail.
             let _ = self.states.resize(total, K::neutral());
         }
         for (row, place) in places.iter().enumerate() {

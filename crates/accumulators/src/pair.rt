@@ -3,7 +3,7 @@
 ghost use mathlib.Core.Path.{_≡_};
 ghost use lib.ListN.{take, drop};
 ghost use Rattle.accumulators.specs.Aggregations.{paired};
-ghost use Rattle.accumulators.specs.Groups.{besides};
+ghost use Rattle.accumulators.specs.Groups.{sideBySide};
 use crate::aggregate_expr::AggregateExpr;
 use crate::groups_accumulator::GroupsAccumulator;
 use cells::Batch;
@@ -38,13 +38,14 @@ fn split_exprs<A: GroupsAccumulator>(
     exprs.split_at(A::aggregates().min(named))
 }
 
-pub impl<P: GroupsAccumulator, Q: GroupsAccumulator> GroupsAccumulator for PairGroupsAccumulator<
-    P,
-    Q,
-> as PairGroups {
+pub impl<P, Q> GroupsAccumulator for PairGroupsAccumulator<P, Q> as PairGroups
+where
+    P: GroupsAccumulator,
+    Q: GroupsAccumulator,
+{
     type State = (P::State, Q::State);
 
-    ghost states = { λ p. besides (P·GroupsAccumulator .aggregation .neutral) (Q·GroupsAccumulator .aggregation .neutral) (P·GroupsAccumulator .states (p .first)) (Q·GroupsAccumulator .states (p .second)) };
+    ghost states = { λ p. sideBySide (P·GroupsAccumulator .aggregation .neutral) (Q·GroupsAccumulator .aggregation .neutral) (P·GroupsAccumulator .states (p .first)) (Q·GroupsAccumulator .states (p .second)) };
 
     ghost aggregation = { paired (P·GroupsAccumulator .aggregation) (Q·GroupsAccumulator .aggregation) };
 
