@@ -8,7 +8,7 @@ use lib.ListN.{length, take, drop, getD, set, replicate}
 use Rattle.std.proofs.shelf.Lists.{take-all, getD-default, append-nil, at-drop-more, at-drop-all}
 use Rattle.std.proofs.shelf.Tests.{lt-ltb, le-ltb}
 use Rattle.cells.specs.Rows.{CellOf}
-use Rattle.accumulators.specs.declared.aggregate_expr.AggregateExpr.{AggregateExpr}
+use Rattle.aggregates.specs.declared.aggregate_expr.AggregateExpr.{AggregateExpr}
 use Rattle.accumulators.specs.Aggregations.{Aggregation}
 use Rattle.accumulators.specs.Groups.{grown, fed, fedFrom}
 

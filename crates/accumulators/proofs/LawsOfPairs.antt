@@ -4,7 +4,7 @@ use native.Mathlib.Omega.{arith}
 use Rattle.std.specs.declared.option.Option.the-variants.{None}
 use Rattle.std.proofs.shelf.Elements.{all-take, all-drop}
 use Rattle.std.proofs.shelf.Lists.{length-append, take-at, drop-at}
-use Rattle.accumulators.specs.Arguments.{argumentOf}
+use Rattle.aggregates.specs.Arguments.{argumentOf}
 use Rattle.accumulators.specs.Aggregations.{Aggregation, Lawful, paired}
 use Rattle.accumulators.proofs.SideBySide.{pairs}
 

@@ -1,5 +1,3 @@
-pub mod Sums
-pub mod LawsOfKinds
 pub mod LawsOfPairs
 pub mod Feeding
 pub mod SideBySide

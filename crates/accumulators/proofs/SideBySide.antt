@@ -11,7 +11,7 @@ use Rattle.cells.specs.Rows.{CellOf}
 use Rattle.cells.specs.Emits.{left}
 use Rattle.cells.specs.declared.emit_to.EmitTo.{EmitTo}
 use Rattle.cells.specs.declared.emit_to.EmitTo.the-variants.{All, First}
-use Rattle.accumulators.specs.declared.aggregate_expr.AggregateExpr.{AggregateExpr}
+use Rattle.aggregates.specs.declared.aggregate_expr.AggregateExpr.{AggregateExpr}
 use Rattle.accumulators.specs.Aggregations.{Aggregation, paired}
 use Rattle.accumulators.specs.Groups.{grown, fed, fedFrom, updated, sideBySide}
 use Rattle.accumulators.proofs.Feeding.{fed-below, fed-past}

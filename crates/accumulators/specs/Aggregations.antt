@@ -6,9 +6,9 @@ use lib.ListN.{length, take, drop}
 use Rattle.std.specs.declared.option.Option.the-variants.{None}
 use Rattle.std.specs.shelf.Lists.{All}
 use Rattle.cells.specs.Rows.{CellOf}
-use Rattle.accumulators.specs.declared.aggregate_expr.AggregateExpr.{AggregateExpr}
-use Rattle.accumulators.specs.Arguments.{argumentOf, firstArgument}
-use Rattle.accumulators.specs.Kinds.{Kind}
+use Rattle.aggregates.specs.declared.aggregate_expr.AggregateExpr.{AggregateExpr}
+use Rattle.aggregates.specs.Arguments.{argumentOf, firstArgument}
+use Rattle.aggregates.specs.Kinds.{Kind}
 
 pub record Aggregation (S : Type 0) : Type 1 where
   -- what a group holds before its first row

@@ -5,7 +5,7 @@ use Prim.Native.Nat.{ℕ, _+_, _-_, min}
 use lib.Dec.{ltb}
 use lib.ListN.{length, getD, set, replicate}
 use Rattle.cells.specs.Rows.{CellOf}
-use Rattle.accumulators.specs.declared.aggregate_expr.AggregateExpr.{AggregateExpr}
+use Rattle.aggregates.specs.declared.aggregate_expr.AggregateExpr.{AggregateExpr}
 use Rattle.accumulators.specs.Aggregations.{Aggregation}
 
 -- ss, and as many more of e as it takes to be n

@@ -1,8 +1,2 @@
-pub mod Arguments
-pub mod Kinds
-pub mod Wrapping
-pub mod Counts
-pub mod Values
-pub mod Means
 pub mod Aggregations
 pub mod Groups

@@ -9,7 +9,7 @@ ghost use Rattle.cells.specs.Views.{viewRows};
 ghost use Rattle.cells.specs.Emits.{left as remaining};
 ghost use Rattle.accumulators.specs.Aggregations.{Aggregation, Lawful};
 ghost use Rattle.accumulators.specs.Groups.{updated};
-use crate::aggregate_expr::AggregateExpr;
+use aggregates::AggregateExpr;
 use cells::Batch;
 use cells::Cell;
 use cells::EmitTo;

@@ -2,7 +2,7 @@
 
 ghost use Prim.Native.Nat.{_≤_};
 ghost use Rattle.std.specs.Of.Vec.{vec-cap};
-use crate::aggregate_kind::AggregateKind;
+use aggregates::AggregateKind;
 
 /// The accumulator of one aggregate, of any kind.
 #[derive(Drop)]

@@ -1,18 +1,18 @@
 //! The groups of a board: least clearance, copper length and vias of each net and layer.
 
 use crate::segments::COLUMNS;
-use accumulators::AggregateExpr;
-use accumulators::Count;
-use accumulators::CountKind;
 use accumulators::GroupsAccumulator;
 use accumulators::KindGroups;
 use accumulators::KindGroupsAccumulator;
-use accumulators::Min;
-use accumulators::MinKind;
 use accumulators::PairGroups;
 use accumulators::PairGroupsAccumulator;
-use accumulators::Sum;
-use accumulators::SumKind;
+use aggregates::AggregateExpr;
+use aggregates::Count;
+use aggregates::CountKind;
+use aggregates::Min;
+use aggregates::MinKind;
+use aggregates::Sum;
+use aggregates::SumKind;
 use cells::Batch;
 use cells::Cell;
 use cells::MAX_BATCH_ROWS;

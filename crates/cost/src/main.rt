@@ -1,12 +1,12 @@
 //! Measures what a row costs: the time to intern and to accumulate it, at 1 and at 500 held groups.
 //! The figures go to standard error, since no two runs have the same.
 
-use accumulators::AggregateExpr;
 use accumulators::GroupsAccumulator;
 use accumulators::KindGroups;
 use accumulators::KindGroupsAccumulator;
-use accumulators::Min;
-use accumulators::MinKind;
+use aggregates::AggregateExpr;
+use aggregates::Min;
+use aggregates::MinKind;
 use cells::Batch;
 use cells::Key;
 use group_values::GroupValues;
