@@ -14,9 +14,6 @@ use cells::Batch;
 use cells::Cell;
 use cells::EmitTo;
 
-/// The most groups that are held at a time.
-pub const MAX_GROUPS: usize = 512;
-
 /// One state for each held group, in the order of the groups.
 pub trait GroupsAccumulator {
     type State;

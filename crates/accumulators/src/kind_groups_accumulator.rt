@@ -7,7 +7,6 @@ ghost use Rattle.std.specs.Of.Vec.{vec-items};
 ghost use Rattle.std.specs.Vec.{made};
 ghost use Rattle.accumulators.specs.Aggregations.{ofKind};
 use crate::groups_accumulator::GroupsAccumulator;
-use crate::groups_accumulator::MAX_GROUPS;
 use crate::kind_groups::KindGroupsAccumulator;
 use aggregates::AggregateExpr;
 use aggregates::AggregateKind;
@@ -16,6 +15,7 @@ use aggregates::write_cell;
 use cells::Batch;
 use cells::Cell;
 use cells::EmitTo;
+use cells::MAX_GROUPS;
 use std::alloc::AllocError;
 use std::alloc::Global;
 

@@ -9,7 +9,6 @@ mod kind_groups_accumulator;
 mod pair;
 
 pub use groups_accumulator::GroupsAccumulator;
-pub use groups_accumulator::MAX_GROUPS;
 pub use kind_groups::KindGroupsAccumulator;
 pub use kind_groups_accumulator::KindGroups;
 pub use pair::PairGroups;

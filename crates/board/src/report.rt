@@ -41,7 +41,7 @@ pub struct Report {
     figures: Figures,
     exprs: [AggregateExpr; 3],
     places: Vec<usize>,
-    /// Rows that were taken in.
+    /// Rows that were read.
     pub rows: u64,
     /// Rows whose group found no room in the table.
     pub no_room: u64,
@@ -97,9 +97,9 @@ impl Report {
         for row in 0..batch.num_rows() {
             let key = self.keys.evaluate_group_by(batch, row, 0);
             let place = self.table.intern(&key);
-            match place {
-                Some(_) => self.rows = self.rows.saturating_add(1),
-                None => self.no_room = self.no_room.saturating_add(1),
+            self.rows = self.rows.saturating_add(1);
+            if place.is_none() {
+                self.no_room = self.no_room.saturating_add(1);
             }
             self.places.push(place.unwrap_or(NOWHERE))?;
         }

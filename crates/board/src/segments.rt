@@ -219,3 +219,63 @@ impl SegmentReader {
         Ok(())
     }
 }
+
+#[cfg(test)]
+mod tests {
+    use super::*;
+    use std::test::*;
+
+    const HEAD: &[u8] = b"net,layer,clearance,length,via\n";
+
+    fn read(bytes: &[u8]) -> Result<u64, Fault> {
+        let mut reader = SegmentReader::new();
+        let mut rows = 0u64;
+        for byte in bytes {
+            if reader.feed(*byte)?.is_some() {
+                rows = rows.saturating_add(1);
+            }
+        }
+        if reader.finish()?.is_some() {
+            rows = rows.saturating_add(1);
+        }
+        Ok(rows)
+    }
+
+    // Where the lines behind the header are broken, and how.
+    fn broken(rt: &LibcRuntime, lines: &[u8]) -> Result<(u64, u64, Wrong), Fail> {
+        let mut bytes = HEAD.to_vec(rt.alloc())?;
+        bytes.extend_from_slice(lines)?;
+        match read(&bytes) {
+            Ok(_) => Err(Fail::new("it was read")),
+            Err(fault) => Ok((fault.line, fault.column, fault.wrong)),
+        }
+    }
+
+    #[test]
+    fn whole_lines_are_read(rt: LibcRuntime) -> Result<(), Fail> {
+        let mut bytes = HEAD.to_vec(rt.alloc())?;
+        bytes.extend_from_slice(b"1,2,3,4,0\n,,,,\r\n-1,-9223372036854775808,,,1")?;
+        match read(&bytes) {
+            Ok(rows) => check_eq(rows, 3),
+            Err(_) => Err(Fail::new("it was not read")),
+        }
+    }
+
+    #[test]
+    fn broken_lines_are_placed(rt: LibcRuntime) -> Result<(), Fail> {
+        check(broken(&rt, b"1,2,3,4\n")? == (2, 8, Wrong::FewCells))?;
+        check(broken(&rt, b"1,2,3,4,5\n1,2,3,4,5,6\n")? == (3, 10, Wrong::ManyCells))?;
+        check(broken(&rt, b"1,2,x,4,5\n")? == (2, 5, Wrong::Number))?;
+        check(broken(&rt, b"1,-,3,4,5\n")? == (2, 4, Wrong::Number))?;
+        check(broken(&rt, b"1,9223372036854775808,3,4,5\n")? == (2, 3, Wrong::Range))?;
+        check(broken(&rt, b"1,2\r,3,4,5\n")? == (2, 5, Wrong::LineEnd))
+    }
+
+    #[test]
+    fn another_header_is_refused() -> Result<(), Fail> {
+        match read(b"net,layer,clearance,length,vias\n") {
+            Ok(_) => Err(Fail::new("it was read")),
+            Err(fault) => check(fault.line == 1 && fault.column == 31),
+        }
+    }
+}

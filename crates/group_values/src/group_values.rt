@@ -15,9 +15,6 @@ ghost use Rattle.group_values.specs.Tables.{Distinct, Admitted, dropped, inter
 use cells::EmitTo;
 use cells::Key;
 
-/// The most keys that a table holds.
-pub const MAX_GROUPS: usize = 512;
-
 /// A list of distinct keys, in the order first seen.
 pub trait GroupValues {
     // The keys held, in the order first seen.

@@ -12,7 +12,6 @@ mod small;
 mod small_table;
 
 pub use group_values::GroupValues;
-pub use group_values::MAX_GROUPS;
 pub use row::RowsGroupValues;
 pub use row_table::GroupValuesRows;
 pub use small::SmallGroupValues;

@@ -9,13 +9,13 @@ use crate::chain::add_link;
 use crate::chain::find;
 use crate::chain::rebuild;
 use crate::group_values::GroupValues;
-use crate::group_values::MAX_GROUPS;
 use crate::group_values::drop_count;
 use crate::hash::BUCKETS;
 use crate::hash::bucket;
 use crate::row_table::GroupValuesRows;
 use cells::EmitTo;
 use cells::Key;
+use cells::MAX_GROUPS;
 use std::alloc::AllocError;
 use std::alloc::Global;
 
