@@ -4,6 +4,7 @@
 
 ghost use mathlib.Core.Path.{_≡_};
 ghost use mathlib.Core.List.{map};
+ghost use Rattle.std.specs.Vec.{made};
 ghost use Rattle.cells.specs.Keys.{keyCells};
 ghost use Rattle.order.specs.Orders.{start, opened, emitTo, oomEmitTo, removed, done};
 ghost use Rattle.order.specs.Tracked.{orderOf, modeOf};
@@ -12,6 +13,8 @@ use crate::ordering::InputOrderMode;
 use crate::partial::GroupOrderingPartial;
 use cells::EmitTo;
 use cells::Key;
+use std::alloc::AllocError;
+use std::alloc::Global;
 
 /// What is known of the groups that are held.
 #[derive(Drop)]
@@ -26,15 +29,16 @@ pub enum GroupOrdering {
 
 impl GroupOrdering {
     /// The ordering of an input, before any group.
-    pub fn new(mode: InputOrderMode) -> GroupOrdering
-        ensures { λ r. ⌜ orderOf r ≡ start (modeOf mode) ⌝ }
+    pub fn try_new(heap: Global, mode: &InputOrderMode) -> Result<GroupOrdering, AllocError>
+        ensures { λ r. ⌜ made r (λ o. orderOf o ≡ start (modeOf (now (mode .entry)))) ⌝ }
     {
         match mode {
-            InputOrderMode::Linear => GroupOrdering::None,
-            InputOrderMode::PartiallySorted(order_indices) => {
-                GroupOrdering::Partial(GroupOrderingPartial::new(order_indices))
+            InputOrderMode::Linear => Ok(GroupOrdering::None),
+            InputOrderMode::PartiallySorted(positions) => {
+                let order_indices = Vec::from_slice(heap, positions)?;
+                Ok(GroupOrdering::Partial(GroupOrderingPartial::new(order_indices)))
             }
-            InputOrderMode::Sorted => GroupOrdering::Full(GroupOrderingFull::new()),
+            InputOrderMode::Sorted => Ok(GroupOrdering::Full(GroupOrderingFull::new())),
         }
     }
 

@@ -1,0 +1,4 @@
+pub mod Plans
+pub mod Held
+pub mod Settings
+pub mod Making

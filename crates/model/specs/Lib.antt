@@ -1,0 +1,7 @@
+pub mod Setups
+pub mod Questions
+pub mod Machine
+pub mod Steps
+pub mod Runs
+pub mod Sql
+pub mod Law

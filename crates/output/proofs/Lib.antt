@@ -1,0 +1,4 @@
+pub mod Making
+pub mod Padding
+pub mod Writing
+pub mod Handing
