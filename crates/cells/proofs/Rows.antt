@@ -1,6 +1,6 @@
 -- Where a cell of a row stands.
 use Rattle.std.proofs.Common.{◌≡◌, ℕ, zero, suc, ◌+◌, ◌*◌, ◌<◌, ◌≤◌, List, [], ◌∷◌, length, get_or, take, drop, ℤ, pos, None, sym, refl, ap, ◌∙◌, arith}
-use Rattle.std.proofs.lemmas.List.{get_or-take, get_or-drop, get_or_past, length-take-le, length-take}
+use Rattle.std.proofs.lemmas.List.{get_or-take, get_or-drop, get_or_past, length-take}
 use Rattle.cells.specs.Rows.{CellOf, cell_of, cells_of, rows_of}
 
 pub cells_at : (vs : List ℤ) (fs : List ℕ) (k : ℕ) (v : ℤ) (f : ℕ) → k < length vs → k < length fs

@@ -2,9 +2,6 @@
 
 ghost use Rattle.std.specs.Prelude.{◌≡◌, [], ◌∷◌, ◌++◌, take, None, Decides, slice_index_or};
 ghost use Rattle.cells.specs.Keys.{key_cells};
-ghost use Rattle.std.specs.Cmp.Rules.{comparing};
-ghost use Rattle.std.proofs.Common.{rules, arith};
-ghost use Rattle.std.specs.Cmp as Keys;
 
 use crate::batch::Cell;
 use crate::key::{Key, MAX_KEY_CELLS};
@@ -50,15 +47,27 @@ impl Key {
 }
 
 impl PartialEq for Key {
-    ghost equals = { λ a b r. Decides r (key_cells a ≡ key_cells b) };
+    ghost use Rattle.std.specs.Ordering.{int_eq, on};
+    ghost use Rattle.std.specs.Option.{option_eq};
+    ghost use Rattle.std.specs.Cmp.Lexicographic.{pointwise};
+    ghost use Rattle.std.specs.Cmp.Rules.{comparing};
+    ghost use Rattle.std.proofs.Common.{rules};
 
-    ghost laws = { Keys.partial_equiv_from_equiv (first_of (Prim.search (comparing, rules), Prim.grind (arith, Self.row.coded.inj))) };
+    ghost eq = { on key_cells (pointwise (option_eq int_eq)) };
 
-    fn eq(&self, other: &Key) -> bool {
+    ghost laws = { Prim.search (comparing, rules) };
+
+    fn eq(&self, other: &Key) -> bool
+        ensures value { result ≡ on key_cells (pointwise (option_eq int_eq)) self.now other.now }
+        ensures decides { Decides result (key_cells self.now ≡ key_cells other.now) }
+    {
         self.as_slice() == other.as_slice()
     }
 }
 
 impl Eq for Key {
-    ghost laws = { first_of (Prim.search (comparing, rules), Prim.grind (arith, Self.row.coded.inj)) };
+    ghost use Rattle.std.specs.Cmp.Rules.{comparing};
+    ghost use Rattle.std.proofs.Common.{rules};
+
+    ghost laws = { Prim.search (comparing, rules) };
 }

@@ -2,6 +2,8 @@
 //!
 //! A cell is a signed 64-bit value or absent. A batch is the caller's two slices, values and flags, row by row.
 
+#![tactic(auto)]
+
 mod batch;
 mod emit_to;
 mod key;

@@ -7,7 +7,7 @@ loop-place-init c = omega arith
 
 pub returns-then-flag-gt1 : goal.returns-then-flag-gt1
 returns-then-flag-gt1 c =
-    fault_here c.args.columns c.args.values.now c.args.flags.now c.if-columns-eq0.false c.if-values-columns-ne0.false c.if-flags-values.false c.if-rows-gt-MAX-BATCH-ROWS.false
+    fault_here c.args.columns c.args.values.now c.args.flags.now c.if-columns-eq0.false c.if-values-columns-ne0.false c.if-flags-values.false c.if-rows-gt-MAX_BATCH_ROWS.false
     c.loop-place.place (found_here c.args.flags.now c.loop-place.place c.loop-place-test.true c.loop-place.invariant c.if-flag-gt1.true) c.loop-place-test.true
 
 pub loop-place-preserved : goal.loop-place-preserved
@@ -16,7 +16,7 @@ loop-place-preserved c =
 
 pub returns : goal.returns
 returns c = (
-  no_fault c.args.columns c.args.values.now c.args.flags.now c.if-columns-eq0.false c.if-values-columns-ne0.false c.if-flags-values.false c.if-rows-gt-MAX-BATCH-ROWS.false
+  no_fault c.args.columns c.args.values.now c.args.flags.now c.if-columns-eq0.false c.if-values-columns-ne0.false c.if-flags-values.false c.if-rows-gt-MAX_BATCH_ROWS.false
       (passed_all c.args.flags.now c.loop-place.place c.loop-place-test.false c.loop-place.auto.place-end c.loop-place.invariant),
   refl,
 )

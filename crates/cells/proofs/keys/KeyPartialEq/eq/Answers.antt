@@ -1,8 +1,8 @@
-use Rattle.std.proofs.Common.{◌≡◌, sym, ◌∙◌}
+use Rattle.cells.specs.Keys.{key_cells}
 use Rattle.cells.proofs.Alike.{cells_decide}
 use Rattle.cells.proofs.keys.KeyPartialEq.eq.Goals as goal
 
-pub returns : goal.returns
-returns c =
-    let d = cells_decide c.as-slice.result.now c.as-slice-2.result.now c.eq.result c.eq.ensures in
-    (λ e. sym c.as-slice.ensures ∙ d.0 e ∙ c.as-slice-2.ensures, λ e. d.1 (c.as-slice.ensures ∙ e ∙ sym c.as-slice-2.ensures))
+pub returns-clause-decides : goal.returns-clause-decides
+returns-clause-decides c =
+    let d = cells_decide (key_cells c.args.self.now) (key_cells c.args.other.now) in
+    rw (c.eq.ensures, c.as_slice.ensures, c.as_slice-2.ensures) d
