@@ -3,6 +3,8 @@
 //! It stands for the `MemoryReservation` of datafusion-execution, of which datafusion-physical-plan 55.0.0 asks
 //! `try_resize` and `size`.
 
+#![tactic(auto)]
+
 mod bounded;
 mod peak;
 mod recorded;

@@ -16,7 +16,7 @@ impl<R: MemoryReservation> PeakReservation<R> {
     /// Begins at the bytes that `inner` holds.
     pub fn new(inner: R) -> PeakReservation<R>
         ensures kept { result.inner ≡ inner }
-        ensures begun { result.peak ≡ bytes inner }
+        ensures begun { result.peak ≡ R.bytes inner }
     {
         let peak = inner.size();
         PeakReservation { inner, peak }

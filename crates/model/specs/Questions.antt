@@ -1,5 +1,5 @@
 -- The questions that settings are asked before a stream is made. Assumes nothing.
-use Rattle.std.specs.Prelude.{ℕ, suc, Bool, true, false, cond, not, ◌&&◌, ◌||◌, ltb, List, [], ◌∷◌, length, replicate, Some, None, Option, ◌==◌, nat_eq, nat_le, nat_lt, Float}
+use Rattle.std.specs.Prelude.{ℕ, suc, Bool, true, false, cond, not, ◌&&◌, ◌||◌, List, [], ◌∷◌, length, replicate, Some, None, Option, ◌==◌, nat_eq, nat_le, nat_lt, Float}
 use Rattle.std.specs.Float.{binary64}
 use Rattle.std.specs.Float.Ieee.{round, le}
 use Rattle.cells.specs.Rows.{CellOf}
@@ -49,7 +49,7 @@ module _ {S : Type 0} (u : Setup S) where
   abbrev pub columns_ok : Bool
   columns_ok =
       between 1 16 u.settings.columns
-      && (every (λ c. ltb c u.settings.columns) u.settings.group_by.columns && every (expr_in u.settings.columns) u.settings.exprs)
+      && (every (λ c. nat_lt c u.settings.columns) u.settings.group_by.columns && every (expr_in u.settings.columns) u.settings.exprs)
 
   -- the keys of the wholly masked sets, from the s-th set on, are admitted
   abbrev pub masks_ok : ℕ → List (List Bool) → Bool
@@ -68,7 +68,7 @@ module _ {S : Type 0} (u : Setup S) where
   order_ok_in sorted = not u.settings.group_by.grouped
   order_ok_in (partially positions) =
       (not u.settings.group_by.grouped && between 1 (length u.settings.group_by.columns) (length positions))
-      && (distinct positions && every (λ p. ltb p (length u.settings.group_by.columns)) positions)
+      && (distinct positions && every (λ p. nat_lt p (length u.settings.group_by.columns)) positions)
 
   -- a number of at least 0; no comparison holds of what is no number
   abbrev pub ratio_ok : Bool
