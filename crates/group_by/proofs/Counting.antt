@@ -5,17 +5,6 @@ use Rattle.std.proofs.lemmas.List.Sums.{sum_by_more, sum_by-cons, get_or-le-sum_
 use Rattle.std.proofs.lemmas.Bool.{eqb-true, eq-eqb, cases_Bool, cases_lt}
 use Rattle.group_by.specs.Counts.{Counts, Distinct}
 
-pub counts_more : {K : Type 0} (R : K → K → Bool → Type 0) (xs : List K) (x y : K) (i n m : ℕ) (b t : Bool)
-    → i < length xs → y ≡ get_or xs i y → R y x b → b ≡ t → m ≡ n + cond t 1 0
-    → Counts R (take i xs) x n → Counts R (take (i + 1) xs) x m
-counts_more R xs x y i n m b t l at r is e h eq =
-    let one : ℕ = cond (eq.same (get_or xs i y) x) 1 0 in
-    let same : eq.same (get_or xs i y) x ≡ t = ap (λ z. eq.same z x) (sym at) ∙ sym (eq.says y x b r) ∙ is in
-    let c : one ≡ cond t 1 0 = ap (λ (s : Bool). cond s 1 0) same in
-    e ∙ ap (λ (k : ℕ). k + cond t 1 0) (h eq)
-    ∙ ap (λ (k : ℕ). count_by (λ z. eq.same z x) (take i xs) + k) (sym c)
-    ∙ sym (sum_by_more (λ z. cond (eq.same z x) 1 0) xs i y l)
-
 -- where the count is not 0, some element passes
 some_passes : {X : Type 0} (p : X → Bool) (xs : List X) → 0 < count_by p xs
     → (k : ℕ) × (k < length xs) × ((d : X) → p (get_or xs k d) ≡ true)

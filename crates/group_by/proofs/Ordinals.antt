@@ -1,74 +1,51 @@
 -- Equal sets counted, the greatest ordinal, and ids that differ.
-use Rattle.std.proofs.Common.{◌≡◌, ℕ, zero, suc, ◌+◌, ◌<◌, ◌≤◌, max, Bool, true, false, cond, List, [], ◌∷◌, map, length, get_or, take, vec_items, Decides, fold, count_by, Vec, sym, refl, ap, ◌∙◌, true≢false, arith}
-use mathlib.Core.Bool.{beq}
+use Rattle.std.proofs.Common.{◌≡◌, ℕ, zero, suc, ◌+◌, ◌<◌, ◌≤◌, max, Bool, true, false, ◌&&◌, cond, List, [], ◌∷◌, map, length, get_or, take, vec_items, Decides, fold, count_by, Vec, sym, refl, ap, ◌∙◌, subst, arith}
 use Rattle.std.specs.List.{range_with_len}
-use Rattle.std.specs.Cmp.{IsEquivalence, decided}
-use Rattle.std.specs.Bool.{one_answer}
-use Rattle.std.specs.Cmp.Lexicographic.{Matches}
+use Rattle.std.specs.Bool.{beq}
+use Rattle.std.specs.Cmp.{booleans_Decides}
+use Rattle.std.specs.Cmp.Lexicographic.{pointwise, pointwise_decides}
 use Rattle.std.specs.declared.alloc.Global.{Global}
-use Rattle.std.proofs.lemmas.Slice.Eq.{slice_eq-Decides}
 use Rattle.std.proofs.lemmas.List.{get_or-map, take-map, take-take, length-take}
 use Rattle.std.proofs.lemmas.List.Sums.{sum_by-cons, sum_by-take-le, fold_push, count_by_more_yes, count_by-le-length}
 use Rattle.std.proofs.lemmas.List.FromFn.{map-range_with_len_more}
-use Rattle.std.proofs.lemmas.Bool.{and_parts, and_from}
 use Rattle.group_by.specs.Marks.{with_mark}
 use Rattle.group_by.specs.Ids.{id_of}
 use Rattle.group_by.specs.Sets.{sets_of, same_marks, ordinal_of, greatest_ordinal, Over}
 use Rattle.group_by.proofs.Numbers.{marks_behind}
-use Rattle.std.proofs.lemmas.Bool.Decides.{Decides-eqb}
 
 -- ---- what `==` answers at marks
 
-mark_decides : (x y : Bool) → Decides (beq x y) (x ≡ y)
-mark_decides true true = (λ _. refl, λ _. refl)
-mark_decides false false = (λ _. refl, λ _. refl)
-mark_decides true false = (λ e. absurd (true≢false (sym e)), λ e. sym e)
-mark_decides false true = (λ e. absurd (true≢false (sym e)), λ e. e)
+same_marks-is : (xs ys : List Bool) → pointwise beq xs ys ≡ same_marks xs ys
+same_marks-is [] [] = refl
+same_marks-is [] (y ∷ ys) = refl
+same_marks-is (x ∷ xs) [] = refl
+same_marks-is (x ∷ xs) (y ∷ ys) = ap (λ (b : Bool). beq x y && b) (same_marks-is xs ys)
 
-pub marks_decide : (xs ys : List Bool) → Decides (same_marks xs ys) (xs ≡ ys)
-marks_decide [] [] = (λ _. refl, λ _. refl)
-marks_decide [] (y ∷ ys) = (λ e. absurd (true≢false (sym e)), λ e. let z : ◌≡◌ {A = ℕ} 0 1 = cc in absurd (omega arith))
-marks_decide (x ∷ xs) [] = (λ e. absurd (true≢false (sym e)), λ e. let z : ◌≡◌ {A = ℕ} 0 1 = cc in absurd (omega arith))
-marks_decide (x ∷ xs) (y ∷ ys) = (
-  λ e.
-      let p = and_parts (beq x y) (same_marks xs ys) e in
-      let h : x ≡ y = (mark_decides x y).0 p.0 in
-      let t : xs ≡ ys = (marks_decide xs ys).0 p.1 in
-      cc,
-  λ e.
-      let h : x ≡ y = cc in
-      let t : xs ≡ ys = cc in
-      and_from (beq x y) (same_marks xs ys) ((mark_decides x y).1 h) ((marks_decide xs ys).1 t),
-)
-
-abbrev pub sets_equal : IsEquivalence (λ (x y : Vec Bool Global). Matches (λ (a b : Bool) (t : Bool). Decides t (a ≡ b)) (vec_items x) (vec_items y))
-sets_equal = record {
-  same = λ x y. same_marks (vec_items x) (vec_items y);
-  says = λ x y r h. one_answer r (same_marks (vec_items x) (vec_items y)) (slice_eq-Decides Decides-eqb (vec_items x) (vec_items y) r h) (marks_decide (vec_items x) (vec_items y));
-  itself = λ x. (decided same_marks marks_decide).refl (vec_items x);
-  flip = λ x y. (decided same_marks marks_decide).symm (vec_items x) (vec_items y);
-  alike = λ x y z. (decided same_marks marks_decide).congr (vec_items x) (vec_items y) (vec_items z);
-}
+marks_decide : (xs ys : List Bool) → Decides (same_marks xs ys) (xs ≡ ys)
+marks_decide xs ys = subst (λ (b : Bool). Decides b (xs ≡ ys)) (same_marks-is xs ys) (pointwise_decides booleans_Decides xs ys)
 
 -- ---- ordinals
 
-count_map : {X Y : Type 0} (p : Y → Bool) (f : X → Y) (xs : List X) → count_by p (map f xs) ≡ count_by (λ x. p (f x)) xs
-count_map p f [] = refl
-count_map p f (x ∷ xs) =
+count_map : {X Y : Type 0} (p : Y → Bool) (q : X → Bool) (f : X → Y) → ((x : X) → p (f x) ≡ q x) → (xs : List X)
+    → count_by p (map f xs) ≡ count_by q xs
+count_map p q f alike [] = refl
+count_map p q f alike (x ∷ xs) =
     sum_by-cons (λ y. cond (p y) 1 0) (f x) (map f xs)
-    ∙ ap (λ (k : ℕ). cond (p (f x)) 1 0 + k) (count_map p f xs)
-    ∙ sym (sum_by-cons (λ y. cond (p (f y)) 1 0) x xs)
+    ∙ ap (λ (b : Bool). cond b 1 0 + count_by p (map f xs)) (alike x)
+    ∙ ap (λ (k : ℕ). cond (q x) 1 0 + k) (count_map p q f alike xs)
+    ∙ sym (sum_by-cons (λ y. cond (q y) 1 0) x xs)
 
 pub marks_at : (groups : List (Vec Bool Global)) (i : ℕ) (g : Vec Bool Global) → i < length groups → g ≡ get_or groups i g
     → vec_items g ≡ get_or (sets_of groups) i []
 marks_at groups i g l at = ap vec_items at ∙ sym (get_or-map vec_items groups i g [] l)
 
 pub ordinal_is : (groups : List (Vec Bool Global)) (i k n : ℕ) (g : Vec Bool Global) → i < length groups → k ≡ i → g ≡ get_or groups i g
-    → n ≡ count_by (λ y. same_marks (vec_items y) (vec_items g)) (take k groups) → n ≡ ordinal_of (sets_of groups) i
+    → n ≡ count_by (λ y. pointwise beq (vec_items y) (vec_items g)) (take k groups) → n ≡ ordinal_of (sets_of groups) i
 ordinal_is groups i k n g l from at count =
+    let same : Vec Bool Global → Bool = λ y. pointwise beq (vec_items y) (vec_items g) in
     count
-    ∙ ap (λ (j : ℕ). count_by (λ y. same_marks (vec_items y) (vec_items g)) (take j groups)) from
-    ∙ sym (count_map (λ s. same_marks s (vec_items g)) vec_items (take i groups))
+    ∙ ap (λ (j : ℕ). count_by same (take j groups)) from
+    ∙ sym (count_map (λ s. same_marks s (vec_items g)) same vec_items (λ y. sym (same_marks-is (vec_items y) (vec_items g))) (take i groups))
     ∙ ap (λ (sets : List (List Bool)). count_by (λ s. same_marks s (vec_items g)) sets) (sym (take-map vec_items i groups))
     ∙ ap (λ (m : List Bool). count_by (λ s. same_marks s m) (take i (sets_of groups))) (marks_at groups i g l at)
 

@@ -1,10 +1,9 @@
 -- How many elements of a list equal one value, and when no two are equal. Assumes nothing.
 use Rattle.std.specs.Prelude.{◌≡◌, ℕ, ◌<◌, Bool, List, length, count_by, ◌≢◌, slice_index_or}
-use Rattle.std.specs.Cmp.{IsEquivalence}
 
--- n elements of xs equal x, by any equality that agrees with `==`, whose answers R allows
-abbrev pub Counts : {K : Type 0} → (K → K → Bool → Type 0) → List K → K → ℕ → Type 0
-Counts R xs x n = (e : IsEquivalence R) → n ≡ count_by (λ y. R y x) xs
+-- n elements of xs equal x, by the equality E
+abbrev pub Counts : {K : Type 0} → (K → K → Bool) → List K → K → ℕ → Type 0
+Counts E xs x n = n ≡ count_by (λ y. E y x) xs
 
 -- no two places hold the same
 abbrev pub Distinct : {X : Type 0} → List X → Type 0

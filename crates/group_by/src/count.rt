@@ -5,7 +5,7 @@ ghost use Rattle.group_by.specs.Counts.{Counts, Distinct};
 
 /// How many of the items equal `x`.
 pub fn count_equal<T: PartialEq>(items: &[T], x: &T) -> usize
-    ensures count { Counts (λ x' y' r'. r' ≡ T.PartialEq.eq x' y') items.now x.now result }
+    ensures count { Counts T.eq items.now x.now result }
     ensures bound { result ≤ length items.now }
 {
     let mut count = 0;

@@ -2,6 +2,8 @@
 //!
 //! Ported from datafusion-physical-plan 55.0.0, src/aggregates/mod.rs (its group-by items), and changed.
 
+#![tactic(auto)]
+
 mod count;
 mod evaluate;
 mod group_id;

@@ -5,4 +5,4 @@ use Rattle.group_by.proofs.count.count_equal.Given as goal
 -- The items so far are counted.
 abbrev pub invariant-loop-item : goal.invariant-loop-item
 invariant-loop-item g l =
-    (l.count ≤ l.item-index) × Counts (λ x' y' r'. r' ≡ g.T.PartialEq.eq x' y') (take l.item-index l.items) l.x l.count
+    (l.count ≤ l.item-index) × Counts g.T.PartialEq.eq (take l.item-index l.items) l.x l.count

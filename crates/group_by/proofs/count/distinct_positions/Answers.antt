@@ -4,18 +4,15 @@ use Rattle.group_by.specs.Counts.{Distinct}
 use Rattle.group_by.proofs.Counting.{distinct_more, not_distinct}
 use Rattle.group_by.proofs.count.distinct_positions.Goals as goal
 
-pub loop-place-init : goal.loop-place-init
-loop-place-init c i j d lt none same = omega arith
-
-pub returns-then-count-equal-gt0 : goal.returns-then-count-equal-gt0
-returns-then-count-equal-gt0 c = (
+pub returns-then-count_equal-gt0 : goal.returns-then-count_equal-gt0
+returns-then-count_equal-gt0 c = (
   λ e. absurd (true≢false (sym e)),
-  λ distinct. absurd (not_distinct c.args.positions.now c.loop-place.place _ _ c.count-equal.result c.loop-place-test.true (omega arith) refl c.count-equal.ensures.count c.if-count-equal-gt0.true distinct),
+  λ distinct. absurd (not_distinct c.args.positions.now c.loop-place.place _ _ c.count_equal.result c.loop-place-test.true (omega arith) refl c.count_equal.ensures.count c.if-count_equal-gt0.true distinct),
 )
 
 pub loop-place-preserved : goal.loop-place-preserved
 loop-place-preserved c =
-    distinct_more c.args.positions.now c.loop-place.place _ _ c.count-equal.result c.loop-place-test.true (omega arith) refl c.count-equal.ensures.count (omega arith) c.loop-place.invariant
+    distinct_more c.args.positions.now c.loop-place.place _ _ c.count_equal.result c.loop-place-test.true (omega arith) refl c.count_equal.ensures.count (omega arith) c.loop-place.invariant
 
 pub returns : goal.returns
 returns c = (

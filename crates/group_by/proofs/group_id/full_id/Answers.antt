@@ -9,14 +9,14 @@ use Rattle.group_by.proofs.group_id.full_id.Goals as goal
 pub loop-masked-init : goal.loop-masked-init
 loop-masked-init c = marks_behind c.args.group.now c.args.ordinal
 
-pub overflow-mul-id : goal.overflow-mul-id
-overflow-mul-id c =
+pub overflow_mul-id : goal.overflow_mul-id
+overflow_mul-id c =
     let marks = c.args.group.now in
     let d = bool_byte (get_or marks c.loop-masked.masked-index false) in
     omega (arith, mark_below marks c.loop-masked.masked-index c.loop-masked.id d (id_of marks c.args.ordinal) c.loop-masked-test.true refl c.loop-masked.invariant)
 
-pub overflow-add-id : goal.overflow-add-id
-overflow-add-id c =
+pub overflow_add-id : goal.overflow_add-id
+overflow_add-id c =
     let marks = c.args.group.now in
     omega (arith, mark_below marks c.loop-masked.masked-index c.loop-masked.id c.from.result (id_of marks c.args.ordinal) c.loop-masked-test.true c.from.ensures c.loop-masked.invariant)
 

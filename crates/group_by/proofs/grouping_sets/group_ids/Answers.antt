@@ -6,16 +6,16 @@ use Rattle.group_by.specs.Sets.{sets_of, id_at}
 use Rattle.group_by.proofs.Faulty.{id_small, ids_more, ids-distinct}
 use Rattle.group_by.proofs.grouping_sets.group_ids.Goals as goal
 
-pub full-id-id-requires : goal.full-id-id-requires
-full-id-id-requires c =
-    id_small c.args.groups.now c.loop-set.set c.duplicate-ordinal.result c.index-groups-set.result c.deref.result.now c.loop-set-test.true c.index-groups-set.is c.deref.ensures.value c.duplicate-ordinal.ensures
-    (omega arith) (sym c.in-default.ensures)
+pub full_id-id-requires : goal.full_id-id-requires
+full_id-id-requires c =
+    id_small c.args.groups.now c.loop-set.set c.duplicate_ordinal.result c.index-groups-set.result c.deref.result.now c.loop-set-test.true c.index-groups-set.is c.deref.ensures.value c.duplicate_ordinal.ensures
+    (omega arith) (sym c.in_default.ensures)
 
 pub loop-set-preserved : goal.loop-set-preserved
 loop-set-preserved c =
-    let f : SFits w64 c.cast-signed.result = search rules in (
-      ids_more c.args.groups.now c.loop-set.set c.duplicate-ordinal.result c.index-groups-set.result c.deref.result.now c.loop-set-test.true c.index-groups-set.is c.deref.ensures.value c.duplicate-ordinal.ensures
-          (vec_items c.loop-set.ids) (vec_items c.push-reserved.new.self) c.full-id-id.result _ c.loop-set.invariant.0 c.full-id-id.ensures (to_z-of_z w64 c.cast-signed.result f ∙ c.cast-signed.ensures) c.push-reserved.ensures.items,
+    let f : SFits w64 c.cast_signed.result = search rules in (
+      ids_more c.args.groups.now c.loop-set.set c.duplicate_ordinal.result c.index-groups-set.result c.deref.result.now c.loop-set-test.true c.index-groups-set.is c.deref.ensures.value c.duplicate_ordinal.ensures
+          (vec_items c.loop-set.ids) (vec_items c.push_reserved.new.self) c.full_id-id.result _ c.loop-set.invariant.0 c.full_id-id.ensures (to_z-of_z w64 c.cast_signed.result f ∙ c.cast_signed.ensures) c.push_reserved.ensures.items,
       omega arith,
       omega arith,
     )
@@ -25,7 +25,7 @@ returns c =
     let groups = c.args.groups.now in
     let n = length-map groups vec_items in
     let all : c.loop-set.set ≡ length (sets_of groups) = omega arith in (
-      sym c.in-default.ensures,
+      sym c.in_default.ensures,
       c.loop-set.invariant.0 ∙ ap (λ (k : ℕ). map (id_at (sets_of groups)) (range_with_len 0 k)) all,
-      ids-distinct (sets_of groups) (omega arith) (sym c.in-default.ensures),
+      ids-distinct (sets_of groups) (omega arith) (sym c.in_default.ensures),
     )

@@ -7,7 +7,7 @@ use Rattle.group_by.proofs.grouping_sets.max_duplicate_ordinal.Goals as goal
 
 pub loop-set-preserved : goal.loop-set-preserved
 loop-set-preserved c =
-    greatest_more (ordinal_of (sets_of c.args.groups.now)) c.loop-set.set c.loop-set.greatest c.duplicate-ordinal.result _ c.loop-set.invariant c.duplicate-ordinal.ensures c.max-greatest.ensures
+    greatest_more (ordinal_of (sets_of c.args.groups.now)) c.loop-set.set c.loop-set.greatest c.duplicate_ordinal.result _ c.loop-set.invariant c.duplicate_ordinal.ensures c.max-greatest.ensures
 
 pub returns : goal.returns
 returns c =

@@ -5,19 +5,19 @@ use Rattle.group_by.specs.Sets.{sets_of, for_each, fault_at, first_some}
 use Rattle.group_by.proofs.Faulty.{fault_is, fault_here, passed_more}
 use Rattle.group_by.proofs.grouping_sets.sets_fault.Goals as goal
 
-pub returns-then-is-some : goal.returns-then-is-some
-returns-then-is-some c =
+pub returns-then-is_some : goal.returns-then-is_some
+returns-then-is_some c =
     let groups = c.args.groups.now in
     let i = c.loop-set.set in
-    let e = fault_is groups i c.duplicate-ordinal-ordinal.result c.index-groups-set.result c.deref.result.now c.loop-set-test.true c.index-groups-set.is c.deref.ensures.value c.duplicate-ordinal-ordinal.ensures c.max-duplicate-ordinal-greatest.result c.max-duplicate-ordinal-greatest.ensures in
-    fault_here (sets_of groups) i c.id-fault-fault.result (omega (arith, length-map groups vec_items)) c.loop-set.invariant (c.id-fault-fault.ensures ∙ e) (sym c.if-is-some.ensures)
+    let e = fault_is groups i c.duplicate_ordinal-ordinal.result c.index-groups-set.result c.deref.result.now c.loop-set-test.true c.index-groups-set.is c.deref.ensures.value c.duplicate_ordinal-ordinal.ensures c.max_duplicate_ordinal-greatest.result c.max_duplicate_ordinal-greatest.ensures in
+    fault_here (sets_of groups) i c.id_fault-fault.result (omega (arith, length-map groups vec_items)) c.loop-set.invariant (c.id_fault-fault.ensures ∙ e) (sym c.if-is_some.ensures)
 
 pub loop-set-preserved : goal.loop-set-preserved
 loop-set-preserved c =
     let groups = c.args.groups.now in
     let i = c.loop-set.set in
-    let e = fault_is groups i c.duplicate-ordinal-ordinal.result c.index-groups-set.result c.deref.result.now c.loop-set-test.true c.index-groups-set.is c.deref.ensures.value c.duplicate-ordinal-ordinal.ensures c.max-duplicate-ordinal-greatest.result c.max-duplicate-ordinal-greatest.ensures in
-    passed_more (sets_of groups) i c.id-fault-fault.result (omega (arith, length-map groups vec_items)) c.loop-set.invariant (c.id-fault-fault.ensures ∙ e) (sym c.if-is-some.ensures)
+    let e = fault_is groups i c.duplicate_ordinal-ordinal.result c.index-groups-set.result c.deref.result.now c.loop-set-test.true c.index-groups-set.is c.deref.ensures.value c.duplicate_ordinal-ordinal.ensures c.max_duplicate_ordinal-greatest.result c.max_duplicate_ordinal-greatest.ensures in
+    passed_more (sets_of groups) i c.id_fault-fault.result (omega (arith, length-map groups vec_items)) c.loop-set.invariant (c.id_fault-fault.ensures ∙ e) (sym c.if-is_some.ensures)
 
 pub returns : goal.returns
 returns c =

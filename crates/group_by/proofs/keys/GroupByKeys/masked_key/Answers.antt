@@ -14,5 +14,5 @@ pub returns : goal.returns
 returns c =
     let k = c.args.self.now in
     let all : c.loop.counter ≡ length (vec_items k.group_by.columns) = omega arith in
-    pushed (replicate c.loop.counter None) (id_cells (keys_of k) c.args.set) _ _ c.loop.invariant c.push-id.ensures
+    pushed (replicate c.loop.counter None) (id_cells (keys_of k) c.args.set) _ _ c.loop.invariant c.push_id.ensures
     ∙ ap (λ (n : ℕ). take 7 (replicate n None ++ id_cells (keys_of k) c.args.set)) all
