@@ -2,6 +2,8 @@
 //!
 //! A kind is Count, Sum, Min, Earliest or Mean; an aggregate names the columns of its argument and of its filter.
 
+#![tactic(auto)]
+
 mod aggregate_expr;
 mod aggregate_kind;
 mod count;

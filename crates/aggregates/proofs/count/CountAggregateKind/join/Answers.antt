@@ -1,3 +1,4 @@
+-- The code's wrapping sum is the sum of integers, cut to 64 bits.
 use Rattle.std.proofs.Common.{rules}
 use Rattle.std.proofs.lemmas.Int.{wraps}
 use Rattle.aggregates.proofs.count.CountAggregateKind.join.Goals as goal
