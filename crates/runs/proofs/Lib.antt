@@ -1,3 +1,4 @@
+pub mod Noting
 pub mod Calling
 pub mod Walking
 pub mod Running

@@ -6,8 +6,8 @@ use Rattle.model.specs.Setups.{Setup, out_width}
 use Rattle.model.specs.Machine.{Model}
 use Rattle.model.specs.Steps as steps
 use Rattle.model.specs.Steps.{Request, Outcome}
-use Rattle.model.specs.Runs.{Reservation, Event, event, May, Leads}
-use Rattle.model.specs.Law.{Sensible}
+use Rattle.model.specs.Runs.{Reservation, May}
+use Rattle.runs.specs.Noted.{Noted, noted, LeadsNoting}
 use Rattle.model.proofs.Closing.{offered-keeps, taken_keeps}
 use Rattle.stream.specs.Streams.{Comes}
 use Rattle.runs.specs.declared.script.Call.{Call}
@@ -26,12 +26,12 @@ map-join f [] ys = refl
 map-join f (x ∷ xs) ys = ap (λ (zs : List _). f x ∷ zs) (map-join f xs ys)
 
 -- the slices of a call that was not made are as they were
-untouched : (W : ℕ) (es : List Event) (ss : List Slices) (d : Slices) → length es < length ss → get_or (written_all W es ss) (length es) d ≡ get_or ss (length es) d
+untouched : (W : ℕ) (es : List Noted) (ss : List Slices) (d : Slices) → length es < length ss → get_or (written_all W es ss) (length es) d ≡ get_or ss (length es) d
 untouched W [] ss d l = refl
 untouched W (e ∷ es) [] d l = refl
 untouched W (e ∷ es) (s ∷ ss) d l = untouched W es ss d (omega arith)
 
-written-more : (W : ℕ) (es : List Event) (e : Event) (ss : List Slices) (s : Slices) → length es < length ss → get_or ss (length es) s ≡ s
+written-more : (W : ℕ) (es : List Noted) (e : Noted) (ss : List Slices) (s : Slices) → length es < length ss → get_or ss (length es) s ≡ s
     → written_all W (es ++ e ∷ []) ss ≡ set (written_all W es ss) (length es) (written W e.out s)
 written-more W [] e [] s l is = absurd (omega arith)
 written-more W [] e (x ∷ ss) s l is = ap (λ (y : Slices). written W e.out y ∷ ss) is
@@ -40,8 +40,8 @@ written-more W (x ∷ es) e (y ∷ ss) s l is = ap (λ (zs : List Slices). writt
 
 -- ---- one call more
 
-module _ {X S R : Type 0} (req : X → Request) (sl : X → Slices) (u : Setup S) (w : Reservation R) (h : List Event) where
-  pub walked_none : (xs : List X) (rs : List Reply) (m : Model S) (r : R) → Leads u w h m r → Walked u w h (take 0 (map req xs)) (map sl xs) (map sl xs) (map tells rs) (map tells rs) m r
+module _ {X S R : Type 0} (req : X → Request) (sl : X → Slices) (u : Setup S) (w : Reservation R) (h : List Noted) where
+  pub walked_none : (xs : List X) (rs : List Reply) (m : Model S) (r : R) → LeadsNoting u w h m r → Walked u w h (take 0 (map req xs)) (map sl xs) (map sl xs) (map tells rs) (map tells rs) m r
   walked_none xs rs m r led = record { events = []; leads = led; requests_are = refl; replies_are = sym (append-nil (map tells rs)); slices-are = refl }
 
   module _ (xs₀ xs : List X) (i : ℕ) (rs₀ rs : List Reply) (m : Model S) (r : R) (k : Walked u w h (take i (map req xs₀)) (map sl xs₀) (map sl xs) (map tells rs₀) (map tells rs) m r)
@@ -51,7 +51,7 @@ module _ {X S R : Type 0} (req : X → Request) (sl : X → Slices) (u : Setup S
 
     made : length (in_order k.events) ≡ i
     made =
-        omega (arith, length-map (in_order k.events) (λ (e : Event). e.request), ap length k.requests_are, length-take i (map req xs₀), length-map xs₀ req, as_many, more)
+        omega (arith, length-map (in_order k.events) (λ (e : Noted). e.request), ap length k.requests_are, length-take i (map req xs₀), length-map xs₀ req, as_many, more)
 
     here : req x ≡ get_or (map req xs₀) i (req x)
     here = ap req at ∙ sym (get_or-map req xs i x (req x) more) ∙ ap (λ (qs : List Request). get_or qs i (req x)) same
@@ -64,17 +64,18 @@ module _ {X S R : Type 0} (req : X → Request) (sl : X → Slices) (u : Setup S
         ∙ get_or-map sl xs i x (sl x) more
         ∙ ap sl (sym at)
 
-    pub walked_more : Sensible u → May m (req x) → (x' : X) (reply : Reply) (m' : Model S) (r' : R) → Called u w m r (req x) (sl x) (sl x') reply m' r'
+    pub walked_more : May m (req x) → (x' : X) (reply : Reply) (m' : Model S) (r' : R) → Called u w m r (req x) (sl x) (sl x') reply m' r'
         → (rs' : List Reply) → rs' ≡ rs ++ reply ∷ []
         → Walked u w h (take (i + 1) (map req xs₀)) (map sl xs₀) (map sl (set xs i x')) (map tells rs₀) (map tells rs') m' r'
-    walked_more sensible may x' reply m' r' called rs' pushed =
-        let e : Event = event (req x) (answer_of reply.answer) called.out (w.bytes r') (w.granted r') in
+    walked_more may x' reply m' r' called rs' pushed =
+        let e : Noted = noted (req x) (answer_of reply.answer) called.out (w.bytes r') (w.granted r') in
+        let comes = called.makes.comes in
         let reads : tells reply ≡ told e =
         ap (λ (b : ℕ). (answer_of reply.answer, b, reply.granted)) called.bytes_are ∙ ap (λ (b : Bool). (answer_of reply.answer, w.bytes r', b)) called.granted_are in
         record {
           events = e ∷ k.events;
-          leads = (called.makes.law sensible (k.events ++ h) k.leads may).0;
-          requests_are = map-join (λ (y : Event). y.request) (in_order k.events) (e ∷ [])
+          leads = (m, r, comes.0, comes.1, comes.2, k.leads, may, comes.3, comes.4, refl, refl);
+          requests_are = map-join (λ (y : Noted). y.request) (in_order k.events) (e ∷ [])
               ∙ ap (λ (qs : List Request). qs ++ req x ∷ []) k.requests_are
               ∙ ap (λ (q : Request). take i (map req xs₀) ++ q ∷ []) here
               ∙ sym (take_more (map req xs₀) i (req x) (omega (arith, length-map xs₀ req, as_many, more)));

@@ -11,7 +11,8 @@ use Rattle.model.specs.Questions.{settings_fault}
 use Rattle.model.specs.Machine.{Model}
 use Rattle.model.specs.Steps as steps
 use Rattle.model.specs.Steps.{Request}
-use Rattle.model.specs.Runs.{Reservation, Event, Leads}
+use Rattle.model.specs.Runs.{Reservation}
+use Rattle.runs.specs.Noted.{Noted, event_of, LeadsNoting}
 use Rattle.model.specs.Law.{Law}
 use Rattle.stream.specs.declared.state.GroupedHashAggregateStream.{GroupedHashAggregateStream}
 use Rattle.stream.specs.declared.state.StreamRefused.{StreamRefused}
@@ -36,10 +37,10 @@ module _ {S R : Type 0} (u : Setup S) (w : Reservation R) where
     pub slices-are : after ≡ written (out_width u) out before
 
   -- calls were made one after the other, on what the history h led to
-  pub record Walked (h : List Event) (requests : List Request) (before after : List (List ℤ × List ℕ)) (told₀ told₁ : List (steps.Answer × ℕ × Bool)) (m : Model S) (r : R) : Type 0 where
-    pub events : List Event
-    pub leads : Leads u w (events ++ h) m r
-    pub requests_are : map (λ (e : Event). e.request) (in_order events) ≡ requests
+  pub record Walked (h : List Noted) (requests : List Request) (before after : List (List ℤ × List ℕ)) (told₀ told₁ : List (steps.Answer × ℕ × Bool)) (m : Model S) (r : R) : Type 0 where
+    pub events : List Noted
+    pub leads : LeadsNoting u w (events ++ h) m r
+    pub requests_are : map (λ (e : Noted). e.request) (in_order events) ≡ requests
     pub replies_are : told₁ ≡ told₀ ++ map told (in_order events)
     pub slices-are : after ≡ written_all (out_width u) (in_order events) before
 
@@ -47,13 +48,13 @@ module _ {S R : Type 0} (u : Setup S) (w : Reservation R) where
   -- exactly these answers and this reservation after each, that leads to this stream and this reservation; each call's slices
   -- hold what it handed out, and nothing else in them has changed; and the law holds of that run.
   pub record Ran (script script' : Script) (replies : List Reply) (m : Model S) (r : R) : Type 0 where
-    pub history : List Event
-    pub leads : Leads u w history m r
-    pub requests_are : map (λ (e : Event). e.request) (in_order history) ≡ requests_of script
+    pub history : List Noted
+    pub leads : LeadsNoting u w history m r
+    pub requests_are : map (λ (e : Noted). e.request) (in_order history) ≡ requests_of script
     pub replies_are : map tells replies ≡ map told (in_order history)
     pub slices-are : slices_of script' ≡ written_all (out_width u) (in_order history) (slices_of script)
     pub requests_same : requests_of script' ≡ requests_of script
-    pub law : Law u w history m r
+    pub law : Law u w (map event_of history) m r
 
 abbrev pub stream_of : {G A R S : Type 0} → Stage G A R S → GroupedHashAggregateStream G A R S
 stream_of (Reading s) = s

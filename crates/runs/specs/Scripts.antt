@@ -5,7 +5,7 @@ use Rattle.cells.specs.Rows.{CellOf, overlaid}
 use Rattle.output.specs.Slices.{value_of, flag_of, flat}
 use Rattle.model.specs.Steps as steps
 use Rattle.model.specs.Steps.{Request, offer, take, finish, accepted, refused, handed, nothing, closed}
-use Rattle.model.specs.Runs.{Event}
+use Rattle.runs.specs.Noted.{Noted}
 use Rattle.stream.specs.Refusals.{offer_refusal, take_refusal}
 use Rattle.runs.specs.declared.script.Answer.{Answer}
 use Rattle.runs.specs.declared.script.Answer.TheVariants.{Accepted, Refused, Handed, Nothing, TooShort, Closed}
@@ -63,11 +63,11 @@ tells p = (answer_of p.answer, p.bytes, p.granted)
 
 -- ---- events
 
-abbrev pub told : Event → steps.Answer × ℕ × Bool
+abbrev pub told : Noted → steps.Answer × ℕ × Bool
 told e = (e.answer, e.bytes, e.granted)
 
 -- the oldest first
-abbrev pub in_order : List Event → List Event
+abbrev pub in_order : List Noted → List Noted
 in_order [] = []
 in_order (e ∷ h) = in_order h ++ e ∷ []
 
@@ -76,7 +76,7 @@ abbrev pub written : ℕ → List (List CellOf) → List ℤ × List ℕ → Lis
 written width rows s = (overlaid (map value_of (flat width rows)) s.0, overlaid (map flag_of (flat width rows)) s.1)
 
 -- each event in the slices of its call; those of calls that were not made are as they were
-abbrev pub written_all : ℕ → List Event → List (List ℤ × List ℕ) → List (List ℤ × List ℕ)
+abbrev pub written_all : ℕ → List Noted → List (List ℤ × List ℕ) → List (List ℤ × List ℕ)
 written_all width [] ss = ss
 written_all width (e ∷ es) [] = []
 written_all width (e ∷ es) (s ∷ ss) = written width e.out s ∷ written_all width es ss

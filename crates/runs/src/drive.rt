@@ -3,7 +3,7 @@
 ghost use Rattle.std.specs.Prelude.{◌≡◌, ◌+◌, ◌-◌, ◌^◌, ◌≤◌, min, false, List, map, length, vec_len, vec_capacity};
 ghost use Rattle.groups.specs.Held.{Narrow};
 ghost use Rattle.model.specs.Steps.{offer};
-ghost use Rattle.model.specs.Runs.{Event, Leads};
+ghost use Rattle.runs.specs.Noted.{Noted, LeadsNoting};
 ghost use Rattle.model.specs.Law.{Sensible};
 ghost use Rattle.stream.specs.Refusals.{take_answer};
 ghost use Rattle.stream.specs.Streams.{model_of, setup_in, meaning};
@@ -91,7 +91,7 @@ fn read<G: GroupValues, A: GroupsAccumulator, R: MemoryReservation>(
     replies: &mut Vec<Reply>,
 )
     requires { vec_len replies.old + length calls.old ≤ vec_capacity replies.old }
-    ensures walked { Narrow aggregation → Sensible (setup_in aggregation admitted stream.old) → (h : List Event) → Leads (setup_in aggregation admitted stream.old) (meaning bytes granted asks) h (model_of keys states stream.old) stream.old.reservation → stream.old.closing ≡ false → Walked (setup_in aggregation admitted stream.old) (meaning bytes granted asks) h (map request_of calls.old) (map call_slices calls.old) (map call_slices calls.new) (map tells replies.old.items) (map tells replies.new.items) (model_of keys states stream.new) stream.new.reservation }
+    ensures walked { Narrow aggregation → (h : List Noted) → LeadsNoting (setup_in aggregation admitted stream.old) (meaning bytes granted asks) h (model_of keys states stream.old) stream.old.reservation → stream.old.closing ≡ false → Walked (setup_in aggregation admitted stream.old) (meaning bytes granted asks) h (map request_of calls.old) (map call_slices calls.old) (map call_slices calls.new) (map tells replies.old.items) (map tells replies.new.items) (model_of keys states stream.new) stream.new.reservation }
     ensures plan { stream.new.plan ≡ stream.old.plan }
     ensures closing { Narrow aggregation → stream.new.closing ≡ stream.old.closing }
     ensures requests { map request_of calls.new ≡ map request_of calls.old }
@@ -124,7 +124,7 @@ fn drain<G: GroupValues, A: GroupsAccumulator, R: MemoryReservation>(
     replies: &mut Vec<Reply>,
 )
     requires { vec_len replies.old + length takes.old ≤ vec_capacity replies.old }
-    ensures walked { Narrow aggregation → Sensible (setup_in aggregation admitted stream.old.stream) → (h : List Event) → Leads (setup_in aggregation admitted stream.old.stream) (meaning bytes granted asks) h (model_of keys states stream.old.stream) stream.old.stream.reservation → Walked (setup_in aggregation admitted stream.old.stream) (meaning bytes granted asks) h (map take_of takes.old) (map slices takes.old) (map slices takes.new) (map tells replies.old.items) (map tells replies.new.items) (model_of keys states stream.new.stream) stream.new.stream.reservation }
+    ensures walked { Narrow aggregation → (h : List Noted) → LeadsNoting (setup_in aggregation admitted stream.old.stream) (meaning bytes granted asks) h (model_of keys states stream.old.stream) stream.old.stream.reservation → Walked (setup_in aggregation admitted stream.old.stream) (meaning bytes granted asks) h (map take_of takes.old) (map slices takes.old) (map slices takes.new) (map tells replies.old.items) (map tells replies.new.items) (model_of keys states stream.new.stream) stream.new.stream.reservation }
     ensures plan { stream.new.stream.plan ≡ stream.old.stream.plan }
     ensures requests { map take_of takes.new ≡ map take_of takes.old }
 {

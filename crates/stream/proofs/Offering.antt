@@ -52,8 +52,8 @@ pub makes : {S R : Type 0} (u : Setup S) (w : Reservation R) → LawfulAsks w �
 makes u w lawful m r q a out m' r' (g, g', qs, is, asked) = record {
   comes = (g, g', qs, is, asked);
   law = λ sensible h led may.
-      let e = event q a out (w.bytes r') (w.granted r') in
-      let more : Leads u w (e ∷ h) m' r' = (m, r, g, g', qs, led, may, is, asked, refl, refl) in
+      let e = event q a out in
+      let more : Leads u w (e ∷ h) m' r' = (m, r, g, g', qs, led, may, is, asked) in
       (more, law u w sensible lawful (e ∷ h) m' r' more);
 }
 

@@ -17,7 +17,7 @@ module _ {S R : Type 0} (u : Setup S) (w : Reservation R) (m : Model S) (r : R) 
   -- whatever run led here, with settings that passed their questions, the call goes on with it, and the law holds of the whole
   abbrev pub Extends : Request → Answer → List (List CellOf) → Model S → R → Type 0
   Extends q a out m' r' =
-      let e = event q a out (w.bytes r') (w.granted r') in Sensible u → (h : List Event) → Leads u w h m r → May m q → Leads u w (e ∷ h) m' r' × Law u w (e ∷ h) m' r'
+      let e = event q a out in Sensible u → (h : List Event) → Leads u w h m r → May m q → Leads u w (e ∷ h) m' r' × Law u w (e ∷ h) m' r'
 
   -- a call is the defined step, with the reservation's own answers, and goes on with every run
   pub record Makes (q : Request) (a : Answer) (out : List (List CellOf)) (m' : Model S) (r' : R) : Type 0 where

@@ -1,4 +1,5 @@
 pub mod Refusals
+pub mod Passing
 pub mod Streams
 pub mod Making
 pub mod Calls

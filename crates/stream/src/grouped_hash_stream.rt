@@ -2,13 +2,14 @@
 //!
 //! Ported from datafusion-physical-plan 55.0.0, src/aggregates/grouped_hash_stream.rs, and changed.
 
-ghost use Rattle.std.specs.Prelude.{◌≡◌, Bool, []};
+ghost use Rattle.std.specs.Prelude.{◌≡◌, Bool, true, []};
 ghost use Rattle.model.specs.Setups.{need};
 ghost use Rattle.std.specs.Option.{option_map};
 ghost use Rattle.order.specs.Skip.{told};
 ghost use Rattle.model.specs.Machine.{emits, count, says, with_probe};
 ghost use Rattle.model.specs.Steps.{accepted, reserved, probed, settled, ended, grouped, bypassed};
 ghost use Rattle.cells.specs.Views.{view_rows};
+ghost use Rattle.groups.specs.Plans.{is_partial};
 ghost use Rattle.groups.specs.Held.{Narrow};
 ghost use Rattle.stream.specs.declared.state.InputEvent.TheVariants.{End};
 ghost use Rattle.stream.specs.Refusals.{offer_answer, UnlessNoMemory};
@@ -152,7 +153,8 @@ impl<G: GroupValues, A: GroupsAccumulator, R: MemoryReservation> GroupedHashAggr
 
     /// The batch's rows go to wait as they are, each with its own state.
     fn transform_to_states(&mut self, batch: &Batch<'_, '_>)
-        requires { Countable self.old.rows batch.now }
+        requires countable { Countable self.old.rows batch.now }
+        requires partial { is_partial self.old.plan.mode ≡ true }
         ensures comes { Narrow aggregation → Comes (meaning bytes granted asks) (λ _ _. bypassed (setup_in aggregation admitted self.old) (model_of keys states self.old) (view_rows batch.now)) self.old.reservation (model_of keys states self.new) self.new.reservation accepted [] }
         ensures plan { self.new.plan ≡ self.old.plan }
     {

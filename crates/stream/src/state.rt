@@ -1,5 +1,9 @@
 //! The stream.
 
+ghost use Rattle.std.specs.Prelude.{◌≡◌, true, is_some};
+ghost use Rattle.groups.specs.Plans.{is_partial};
+ghost use Rattle.stream.specs.Passing.{passes_on};
+
 use accumulators::GroupsAccumulator;
 use cells::Batch;
 use group_values::GroupValues;
@@ -46,6 +50,9 @@ pub struct GroupedHashAggregateStream<G: GroupValues, A: GroupsAccumulator, R: M
     /// The rows that wait to be taken.
     pub(crate) waiting: Waiting,
     pub(crate) reservation: R,
+    // Only Partial mode has a probe, and passes rows on.
+    ghost probing: { is_some skip_aggregation_probe ≡ true → is_partial plan.mode ≡ true },
+    ghost passing: { passes_on exec_state ≡ true → is_partial plan.mode ≡ true },
 }
 
 /// A stream whose input is finished: what it still holds is taken, and nothing is offered any more.

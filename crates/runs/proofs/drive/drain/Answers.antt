@@ -22,7 +22,7 @@ loop-out-init g c =
       refl,
       omega arith,
       refl,
-      λ narrow sensible h led.
+      λ narrow h led.
           walked_none take_of slices (setup s.plan) w h c.args.takes.now (vec_items c.args.replies.now) (model_of g.G.GroupValues.keys g.A.GroupsAccumulator.states s) s.reservation led,
     )
 
@@ -56,9 +56,9 @@ loop-out-preserved g c =
       requests_kept take_of xs₀ xs i x x' inside at call.ensures.request same,
       omega (arith, c.push-reserved.ensures.len, inv.3),
       c.push-reserved.ensures.capacity ∙ inv.4,
-      λ narrow sensible h led.
-          walked_more take_of slices (setup first.plan) w h xs₀ xs i (vec_items c.args.replies.now) (vec_items c.loop-out.replies) m s.reservation (inv.5 narrow sensible h led)
-          inside same x at sensible tt x' call.result m' t.reservation
+      λ narrow h led.
+          walked_more take_of slices (setup first.plan) w h xs₀ xs i (vec_items c.args.replies.now) (vec_items c.loop-out.replies) m s.reservation (inv.5 narrow h led)
+          inside same x at tt x' call.result m' t.reservation
           (subst (λ (p : Plan). Called (setup p) w m s.reservation (take_of x) (slices x) (slices x') call.result m' t.reservation) inv.1 (called narrow))
           (vec_items c.push-reserved.new.self) c.push-reserved.ensures.items,
     )
@@ -72,8 +72,8 @@ returns g c =
     let xs₀ = c.args.takes.now in
     let all : take c.loop-out.out-index (map take_of xs₀) ≡ map take_of xs₀ =
     take_all c.loop-out.out-index (map take_of xs₀) (omega (arith, length-map xs₀ take_of, c.loop-out-test.false, c.loop-out.auto.takes)) in record {
-      walked = λ narrow sensible h led.
-          subst (λ (qs : List Request). Walked (setup c.args.stream.now.stream.plan) w h qs (map slices xs₀) (map slices c.loop-out.takes) (map tells (vec_items c.args.replies.now)) (map tells (vec_items c.loop-out.replies)) (model_of g.G.GroupValues.keys g.A.GroupsAccumulator.states s) s.reservation) all (inv.5 narrow sensible h led);
+      walked = λ narrow h led.
+          subst (λ (qs : List Request). Walked (setup c.args.stream.now.stream.plan) w h qs (map slices xs₀) (map slices c.loop-out.takes) (map tells (vec_items c.args.replies.now)) (map tells (vec_items c.loop-out.replies)) (model_of g.G.GroupValues.keys g.A.GroupsAccumulator.states s) s.reservation) all (inv.5 narrow h led);
       plan = inv.1;
       requests = inv.2;
     }

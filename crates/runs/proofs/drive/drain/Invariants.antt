@@ -1,7 +1,6 @@
 use Rattle.std.proofs.Common.{◌≡◌, ◌+◌, ◌≤◌, List, map, length, take, vec_items, vec_len, vec_capacity}
 use Rattle.groups.specs.Held.{Narrow}
-use Rattle.model.specs.Runs.{Event, Leads}
-use Rattle.model.specs.Law.{Sensible}
+use Rattle.runs.specs.Noted.{Noted, LeadsNoting}
 use Rattle.stream.specs.Streams.{model_of, setup_in, meaning}
 use Rattle.runs.specs.Scripts.{take_of, slices, tells}
 use Rattle.runs.specs.Ran.{Walked}
@@ -17,6 +16,6 @@ invariant-loop-out g l =
     × (map take_of l.takes ≡ map take_of l.initial.takes)
     × (vec_len l.replies ≡ vec_len l.initial.replies + l.out-index)
     × (vec_capacity l.replies ≡ vec_capacity l.initial.replies)
-    × (Narrow a → Sensible u → (h : List Event) → Leads u w h (model_of g.G.GroupValues.keys g.A.GroupsAccumulator.states l.initial.stream.stream) l.initial.stream.stream.reservation
+    × (Narrow a → (h : List Noted) → LeadsNoting u w h (model_of g.G.GroupValues.keys g.A.GroupsAccumulator.states l.initial.stream.stream) l.initial.stream.stream.reservation
     → Walked u w h (take l.out-index (map take_of l.initial.takes)) (map slices l.initial.takes) (map slices l.takes) (map tells (vec_items l.initial.replies)) (map tells (vec_items l.replies))
     (model_of g.G.GroupValues.keys g.A.GroupsAccumulator.states l.stream.stream) l.stream.stream.reservation)

@@ -23,7 +23,7 @@ loop-call-init g c =
       refl,
       omega arith,
       refl,
-      λ narrow sensible h led reads.
+      λ narrow h led reads.
           walked_none request_of call_slices (setup s.plan) w h c.args.calls.now (vec_items c.args.replies.now) (model_of g.G.GroupValues.keys g.A.GroupsAccumulator.states s) s.reservation led,
     )
 
@@ -58,9 +58,9 @@ loop-call-preserved g c =
       requests_kept request_of xs₀ xs i x x' inside at call.ensures.request same,
       omega (arith, c.push-reserved.ensures.len, inv.4),
       c.push-reserved.ensures.capacity ∙ inv.5,
-      λ narrow sensible h led reads.
-          walked_more request_of call_slices (setup first.plan) w h xs₀ xs i (vec_items c.args.replies.now) (vec_items c.loop-call.replies) m s.reservation (inv.6 narrow sensible h led reads)
-          inside same x at sensible (may_call m x (inv.2 narrow ∙ reads)) x' call.result m' t.reservation
+      λ narrow h led reads.
+          walked_more request_of call_slices (setup first.plan) w h xs₀ xs i (vec_items c.args.replies.now) (vec_items c.loop-call.replies) m s.reservation (inv.6 narrow h led reads)
+          inside same x at (may_call m x (inv.2 narrow ∙ reads)) x' call.result m' t.reservation
           (subst (λ (p : Plan). Called (setup p) w m s.reservation (request_of x) (call_slices x) (call_slices x') call.result m' t.reservation) inv.1 (called narrow))
           (vec_items c.push-reserved.new.self) c.push-reserved.ensures.items,
     )
@@ -74,8 +74,8 @@ returns g c =
     let xs₀ = c.args.calls.now in
     let all : take c.loop-call.call-index (map request_of xs₀) ≡ map request_of xs₀ =
     take_all c.loop-call.call-index (map request_of xs₀) (omega (arith, length-map xs₀ request_of, c.loop-call-test.false, c.loop-call.auto.calls)) in record {
-      walked = λ narrow sensible h led reads.
-          subst (λ (qs : List Request). Walked (setup c.args.stream.now.plan) w h qs (map call_slices xs₀) (map call_slices c.loop-call.calls) (map tells (vec_items c.args.replies.now)) (map tells (vec_items c.loop-call.replies)) (model_of g.G.GroupValues.keys g.A.GroupsAccumulator.states s) s.reservation) all (inv.6 narrow sensible h led reads);
+      walked = λ narrow h led reads.
+          subst (λ (qs : List Request). Walked (setup c.args.stream.now.plan) w h qs (map call_slices xs₀) (map call_slices c.loop-call.calls) (map tells (vec_items c.args.replies.now)) (map tells (vec_items c.loop-call.replies)) (model_of g.G.GroupValues.keys g.A.GroupsAccumulator.states s) s.reservation) all (inv.6 narrow h led reads);
       plan = inv.1;
       closing = inv.2;
       requests = inv.3;

@@ -1,7 +1,6 @@
 use Rattle.std.proofs.Common.{◌≡◌, ◌+◌, ◌≤◌, false, List, map, length, take, vec_items, vec_len, vec_capacity}
 use Rattle.groups.specs.Held.{Narrow}
-use Rattle.model.specs.Runs.{Event, Leads}
-use Rattle.model.specs.Law.{Sensible}
+use Rattle.runs.specs.Noted.{Noted, LeadsNoting}
 use Rattle.stream.specs.Streams.{model_of, setup_in, meaning}
 use Rattle.runs.specs.Scripts.{request_of, call_slices, tells}
 use Rattle.runs.specs.Ran.{Walked}
@@ -18,7 +17,7 @@ invariant-loop-call g l =
     × (map request_of l.calls ≡ map request_of l.initial.calls)
     × (vec_len l.replies ≡ vec_len l.initial.replies + l.call-index)
     × (vec_capacity l.replies ≡ vec_capacity l.initial.replies)
-    × (Narrow a → Sensible u → (h : List Event) → Leads u w h (model_of g.G.GroupValues.keys g.A.GroupsAccumulator.states l.initial.stream) l.initial.stream.reservation
+    × (Narrow a → (h : List Noted) → LeadsNoting u w h (model_of g.G.GroupValues.keys g.A.GroupsAccumulator.states l.initial.stream) l.initial.stream.reservation
     → l.initial.stream.closing ≡ false
     → Walked u w h (take l.call-index (map request_of l.initial.calls)) (map call_slices l.initial.calls) (map call_slices l.calls) (map tells (vec_items l.initial.replies)) (map tells (vec_items l.replies))
     (model_of g.G.GroupValues.keys g.A.GroupsAccumulator.states l.stream) l.stream.reservation)

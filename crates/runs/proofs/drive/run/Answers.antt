@@ -7,7 +7,7 @@ use Rattle.model.specs.Setups.{Setup}
 use Rattle.model.specs.Machine.{Model}
 use Rattle.model.specs.Steps as steps
 use Rattle.model.specs.Steps.{finish, closed}
-use Rattle.model.specs.Runs.{event, Leads}
+use Rattle.runs.specs.Noted.{noted, LeadsNoting}
 use Rattle.model.specs.Law.{Sensible}
 use Rattle.stream.specs.Streams.{model_of, meaning}
 use Rattle.stream.specs.Calls.{Makes}
@@ -49,7 +49,7 @@ returns-in-default-closing g c =
     let walked : Walked (setup begun.plan) w [] (map request_of xs) (map call_slices xs) (map call_slices xs') [] (map tells rs) m s.reservation =
     subst (λ (ts : List (steps.Answer × ℕ × Bool)). Walked (setup begun.plan) w [] (map request_of xs) (map call_slices xs) (map call_slices xs') ts (map tells rs) m s.reservation) (ap (map tells) c.in-Ok.ensures.items)
     (subst (λ (zs : List Call). Walked (setup begun.plan) w [] (map request_of zs) (map call_slices zs) (map call_slices xs') (map tells (vec_items c.in-Ok.replies)) (map tells rs) m s.reservation) same_xs
-    (c.read.ensures.walked begins.narrow begins.sensible []
+    (c.read.ensures.walked begins.narrow []
     (new_leads (setup begun.plan) w model begun.reservation c.args.reservation begins.model begins.reservation-is begins.empty begins.granted)
     (ap (λ (x : Model g.A.State.Denot). x.closing) begins.model))) in
     let kept : map request_of xs' ≡ map request_of xs = c.read.ensures.requests ∙ ap (map request_of) same_xs in
@@ -124,7 +124,7 @@ returns g c =
     let walked : Walked (setup begun.plan) w [] (map request_of xs) (map call_slices xs) (map call_slices xs') [] (map tells rs) m s.reservation =
     subst (λ (ts : List (steps.Answer × ℕ × Bool)). Walked (setup begun.plan) w [] (map request_of xs) (map call_slices xs) (map call_slices xs') ts (map tells rs) m s.reservation) (ap (map tells) c.in-Ok.ensures.items)
     (subst (λ (zs : List Call). Walked (setup begun.plan) w [] (map request_of zs) (map call_slices zs) (map call_slices xs') (map tells (vec_items c.in-Ok.replies)) (map tells rs) m s.reservation) same_xs
-    (c.read.ensures.walked begins.narrow begins.sensible []
+    (c.read.ensures.walked begins.narrow []
     (new_leads (setup begun.plan) w model begun.reservation c.args.reservation begins.model begins.reservation-is begins.empty begins.granted)
     (ap (λ (x : Model g.A.State.Denot). x.closing) begins.model))) in
     let kept : map request_of xs' ≡ map request_of xs = c.read.ensures.requests ∙ ap (map request_of) same_xs in
@@ -148,14 +148,14 @@ returns g c =
     told-closed reply (w.bytes t.reservation) (w.granted t.reservation) c.reply.ensures.answer (c.reply.ensures.bytes ∙ ap (λ x. w.bytes x) c.reservation.ensures)
     (c.reply.ensures.granted ∙ ap (λ x. w.granted x) c.reservation.ensures) in
     let led = closed-leads (setup begun.plan) w begins.sensible lawful script script' xs xs' rs m s.reservation walked kept n t.reservation closes reads rs₂ reply c.push-reserved.ensures.items tells-so in
-    let history = event finish closed [] (w.bytes t.reservation) (w.granted t.reservation) ∷ walked.events in
+    let history = noted finish closed [] (w.bytes t.reservation) (w.granted t.reservation) ∷ walked.events in
     let rs₃ = vec_items c.drain.new.replies in
     let drained : Walked (setup begun.plan) w history (map take_of ys) (map slices ys) (map slices ys') (map tells rs₂) (map tells rs₃) last z.reservation =
     subst (λ (zs : List Buffers). Walked (setup begun.plan) w history (map take_of zs) (map slices zs) (map slices ys') (map tells rs₂) (map tells rs₃) last z.reservation) same_ys
     (subst (λ (p : Plan).
-    Sensible (setup p) → Leads (setup p) w history n t.reservation
+    LeadsNoting (setup p) w history n t.reservation
     → Walked (setup p) w history (map take_of c.deref-mut-2.result.now) (map slices c.deref-mut-2.result.now) (map slices ys') (map tells rs₂) (map tells rs₃) last z.reservation) plan
-    (λ sensible leads. c.drain.ensures.walked begins.narrow sensible history leads) begins.sensible led) in
+    (λ leads. c.drain.ensures.walked begins.narrow history leads) led) in
     let asked : map request_of xs ++ closing_requests script.closing ≡ map request_of xs ++ finish ∷ map take_of ys = ap (λ x. map request_of xs ++ closing_requests x) some in
     let sliced : map call_slices xs ++ closing_slices script.closing ≡ map call_slices xs ++ ([], []) ∷ map slices ys = ap (λ x. map call_slices xs ++ closing_slices x) some in (
       founded.0,

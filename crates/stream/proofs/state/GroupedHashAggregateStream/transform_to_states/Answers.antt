@@ -11,7 +11,7 @@ returns g c =
     let s = c.args.self.now in
     record {
       comes = λ narrow.
-          bypassed-comes (setup_of g.A.GroupsAccumulator.aggregation g.G.GroupValues.admitted s.plan) w (model_of g.G.GroupValues.keys g.A.GroupsAccumulator.states s) (view_rows c.args.batch.now) c.requires.few
-          c.num-rows.result c.num-rows.ensures _ (c.convert-rows.ensures narrow) s.reservation;
+          bypassed-comes (setup_of g.A.GroupsAccumulator.aggregation g.G.GroupValues.admitted s.plan) w (model_of g.G.GroupValues.keys g.A.GroupsAccumulator.states s) (view_rows c.args.batch.now) c.requires.countable.few
+          c.num-rows.result c.num-rows.ensures _ (c.convert-rows.ensures narrow c.requires.partial) s.reservation;
       plan = refl;
     }
