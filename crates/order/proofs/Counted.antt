@@ -1,7 +1,6 @@
 -- The last run of a batch is counted.
 use Rattle.std.proofs.Common.{◌≡◌, ℕ, ◌<◌, Bool, true, false, cond, ◌&&◌, eqb, List, [], ◌∷◌, length, get_or, Some, sym, refl, ap, ◌∙◌, arith}
 use Rattle.cells.specs.Rows.{CellOf}
-use Rattle.cells.specs.Keys.{key_cells}
 use Rattle.order.specs.declared.partial.State.{State}
 use Rattle.order.specs.declared.partial.State.TheVariants.{Start, InProgress, Complete}
 use Rattle.order.specs.Runs.{sort_keys, last_run}

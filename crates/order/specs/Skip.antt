@@ -1,5 +1,5 @@
 -- When the probe says that rows are better passed on. Assumes nothing.
-use Rattle.std.specs.Prelude.{ℕ, ◌+◌, ◌-◌, ◌^◌, min, Bool, true, false, cond, ◌&&◌, pos, nat_le, Float}
+use Rattle.std.specs.Prelude.{ℕ, ◌+◌, ◌-◌, ◌^◌, min, Bool, false, cond, ◌&&◌, pos, nat_le, Float}
 use Rattle.std.specs.Float.{binary64}
 use Rattle.std.specs.Float.Ieee.{of_int, div, lt}
 use Rattle.order.specs.declared.skip_partial.SkipAggregationProbe.{SkipAggregationProbe}

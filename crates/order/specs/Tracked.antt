@@ -1,5 +1,5 @@
 -- What the orderings of the code stand for. Assumes nothing.
-use Rattle.std.specs.Prelude.{ℕ, Bool, true, false, List, Some, None, vec_items}
+use Rattle.std.specs.Prelude.{ℕ, true, false, List, Some, None, vec_items}
 use Rattle.cells.specs.Keys.{key_cells}
 use Rattle.order.specs.declared.full.GroupOrderingFull.{GroupOrderingFull}
 use Rattle.order.specs.declared.full.State as full

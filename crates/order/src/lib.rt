@@ -2,6 +2,8 @@
 //!
 //! An ordering is known by its mark: the groups before it will get no more rows.
 
+#![tactic(auto)]
+
 mod full;
 mod group_ordering;
 mod ordering;

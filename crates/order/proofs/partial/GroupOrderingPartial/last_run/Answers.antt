@@ -1,5 +1,11 @@
-use Rattle.std.proofs.Common.{◌≡◌, ℕ, ◌+◌, ◌<◌, ◌≤◌, Bool, true, false, not, List, [], map, length, get_or, vec_items, sym, refl, ap, ◌∙◌, subst, inl, inr, true≢false, arith}
+-- A row begins a run where its sort key differs from that of the run held, and else belongs to it.
+use Rattle.std.proofs.Common.{◌≡◌, ℕ, ◌+◌, Bool, true, false, not, List, map, length, vec_items, sym, refl, ap, ◌∙◌, subst, inl, inr, true≢false, arith}
+use Rattle.std.proofs.Math.Bool.{not-not}
+use Rattle.std.specs.Option.{option_eq}
+use Rattle.std.specs.Ordering.{int_eq}
+use Rattle.std.specs.Cmp.Lexicographic.{pointwise}
 use Rattle.cells.specs.Rows.{CellOf}
+use Rattle.cells.proofs.Alike.{cells_decide}
 use Rattle.cells.specs.Keys.{key_cells}
 use Rattle.order.specs.declared.partial.Run.{Run}
 use Rattle.order.specs.Runs.{sort_keys}
@@ -9,12 +15,11 @@ use Rattle.order.proofs.partial.GroupOrderingPartial.last_run.Goals as goal
 use Rattle.order.proofs.partial.GroupOrderingPartial.last_run.Goals.{then-row-eq0, then-row-eq0-via-then-row-eq0, then-row-eq0-via-else-row-eq0+then-ne, else-row-eq0+else-ne}
 
 -- what `!=` answered, from what `==` would
-differs : {P : Type 0} (r : Bool) → (x : Bool) × ((x ≡ true → P) × (P → x ≡ true)) × (r ≡ not x) → r ≡ true → P → ⊥
-differs r (x, d, e) t p = true≢false (sym t ∙ e ∙ ap not (d.1 p))
+differs : (xs ys : List CellOf) (r : Bool) → r ≡ not (pointwise (option_eq int_eq) xs ys) → r ≡ true → xs ≡ ys → ⊥
+differs xs ys r e t p = true≢false (sym t ∙ e ∙ ap not ((cells_decide xs ys).1 p))
 
-agrees : {P : Type 0} (r : Bool) → (x : Bool) × ((x ≡ true → P) × (P → x ≡ true)) × (r ≡ not x) → r ≡ false → P
-agrees r (true, d, e) f = d.0 refl
-agrees r (false, d, e) f = absurd (true≢false (sym e ∙ f))
+agrees : (xs ys : List CellOf) (r : Bool) → r ≡ not (pointwise (option_eq int_eq) xs ys) → r ≡ false → xs ≡ ys
+agrees xs ys r e f = (cells_decide xs ys).0 (sym (not-not (pointwise (option_eq int_eq) xs ys)) ∙ ap not (sym e ∙ f))
 
 abbrev Kept : List (List CellOf) → ℕ → Run → Type 0
 Kept ks i run = Scanned ks i run.start (key_cells run.sort_key)
@@ -28,19 +33,19 @@ loop-row-preserved c =
     let ks = sort_keys ps (map key_cells c.args.keys.now) in
     let i = c.loop-row.row in
     let run = c.loop-row.run in
-    let next = key_cells c.sort-key-sort-key.result in
-    let at = sort_keys-at ps c.args.keys.now i c.index-keys-row.result next c.loop-row-test.true c.index-keys-row.is c.sort-key-sort-key.ensures in
+    let next = key_cells c.sort_key-sort_key.result in
+    let at = sort_keys-at ps c.args.keys.now i c.index-keys-row.result next c.loop-row-test.true c.index-keys-row.is c.sort_key-sort_key.ensures in
     let anew = scanned_anew ks i run.start (key_cells run.sort_key) c.loop-row.invariant next at in
     elim c.if-row-eq0.branch [
       | then-row-eq0 w ↦
           elim w.then-row-eq0.branch [
             | then-row-eq0-via-then-row-eq0 w' ↦ subst (λ (r : Run). Kept ks (i + 1) r) (sym w.run-is) (anew (inl w'.if-row-eq0.true))
             | then-row-eq0-via-else-row-eq0+then-ne w' ↦
-                subst (λ (r : Run). Kept ks (i + 1) r) (sym w.run-is) (anew (inr (differs w'.ne.result w'.ne.ensures w'.if-ne.true)))
+                subst (λ (r : Run). Kept ks (i + 1) r) (sym w.run-is) (anew (inr (differs next (key_cells run.sort_key) w'.ne.result w'.ne.ensures w'.if-ne.true)))
           ]
       | else-row-eq0+else-ne w ↦
           subst (λ (r : Run). Kept ks (i + 1) r) (sym w.run-is)
-          (scanned_on ks i run.start (key_cells run.sort_key) c.loop-row.invariant next at w.if-row-eq0.false (agrees w.ne.result w.ne.ensures w.if-ne.false))
+          (scanned_on ks i run.start (key_cells run.sort_key) c.loop-row.invariant next at w.if-row-eq0.false (agrees next (key_cells run.sort_key) w.ne.result w.ne.ensures w.if-ne.false))
     ]
 
 pub returns : goal.returns

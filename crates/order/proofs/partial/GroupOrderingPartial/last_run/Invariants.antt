@@ -1,3 +1,4 @@
+-- The run that is held is the last of the rows read so far.
 use Rattle.std.proofs.Common.{map, vec_items}
 use Rattle.cells.specs.Keys.{key_cells}
 use Rattle.order.specs.Runs.{sort_keys}

@@ -1,3 +1,4 @@
+-- Each position adds its cell, and all positions are the sort key.
 use Rattle.std.proofs.Common.{ℕ, List, ap, ◌∙◌}
 use Rattle.cells.specs.Keys.{key_cells}
 use Rattle.order.specs.Runs.{sort_key}
@@ -5,7 +6,7 @@ use Rattle.order.proofs.SortKeys.{sort_key-more, sort_key-all}
 use Rattle.order.proofs.partial.GroupOrderingPartial.sort_key.Goals as goal
 
 pub loop-index-init : goal.loop-index-init
-loop-index-init c = c.new-sort-key.ensures
+loop-index-init c = c.new-sort_key.ensures
 
 pub loop-index-preserved : goal.loop-index-preserved
 loop-index-preserved c =

@@ -1,7 +1,8 @@
+-- The sort key of the positions read so far.
 use Rattle.std.proofs.Common.{◌≡◌, take}
 use Rattle.cells.specs.Keys.{key_cells}
 use Rattle.order.specs.Runs.{sort_key}
 use Rattle.order.proofs.partial.GroupOrderingPartial.sort_key.Given as goal
 
 abbrev pub invariant-loop-index : goal.invariant-loop-index
-invariant-loop-index l = key_cells l.sort-key ≡ sort_key (take l.index-index l.index-items) (key_cells l.key)
+invariant-loop-index l = key_cells l.sort_key ≡ sort_key (take l.index-index l.index-items) (key_cells l.key)
