@@ -1,9 +1,9 @@
--- The steps of the counting scan, and what its counts say of places that hold the same.
+-- What a count says of places that hold the same.
 use Rattle.std.proofs.Common.{◌≡◌, ℕ, suc, ◌+◌, ◌<◌, Bool, true, cond, eqb, List, [], ◌∷◌, length, get_or, take, count_by, sym, ap, ◌∙◌, inl, inr, arith}
 use Rattle.std.proofs.lemmas.List.{get_or-take, get_or_default, length-take-le}
-use Rattle.std.proofs.lemmas.List.Sums.{sum_by_more, sum_by-cons, get_or-le-sum_by}
+use Rattle.std.proofs.lemmas.List.Sums.{sum_by-cons, get_or-le-sum_by}
 use Rattle.std.proofs.lemmas.Bool.{eqb-true, eq-eqb, cases_Bool, cases_lt}
-use Rattle.group_by.specs.Counts.{Counts, Distinct}
+use Rattle.group_by.specs.Counts.{Distinct}
 
 -- where the count is not 0, some element passes
 some_passes : {X : Type 0} (p : X → Bool) (xs : List X) → 0 < count_by p xs

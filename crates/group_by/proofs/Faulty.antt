@@ -9,7 +9,7 @@ use Rattle.std.proofs.lemmas.Int.{of_z-to_z}
 use Rattle.cells.specs.Refusals.{Refusal}
 use Rattle.group_by.specs.declared.group_id.GroupIdFault.{GroupIdFault}
 use Rattle.group_by.specs.Ids.{group_id_refusal, group_id_fault, id_of}
-use Rattle.group_by.specs.Sets.{sets_of, ordinal_of, greatest_ordinal, for_each, fault_at, first_some, sets_fault, id_at, ids, IdsDiffer}
+use Rattle.group_by.specs.Sets.{sets_of, ordinal_of, greatest_ordinal, for_each, fault_at, first_some, sets_fault, id_at, IdsDiffer}
 use Rattle.group_by.proofs.Numbers.{id_fits}
 use Rattle.group_by.proofs.Ordinals.{marks_at, greatest_within, ids-differ}
 

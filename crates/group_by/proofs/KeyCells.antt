@@ -1,34 +1,11 @@
 -- The cells of a key, pushed one by one.
-use Rattle.std.proofs.Common.{◌≡◌, ℕ, zero, suc, ◌+◌, ◌<◌, ◌≤◌, Bool, true, false, cond, List, [], ◌∷◌, ◌++◌, length, get_or, take, ℤ, pos, Some, None, vec_items, Vec, sym, refl, ap, ◌∙◌, add-one, arith}
-use Rattle.std.specs.declared.alloc.Global.{Global}
-use Rattle.std.proofs.lemmas.List.{append-nil, take_all, get_or_past, get_or_default, length-map}
+use Rattle.std.proofs.Common.{◌≡◌, ℕ, zero, suc, ◌+◌, ◌<◌, ◌≤◌, Bool, false, cond, List, [], ◌∷◌, ◌++◌, length, get_or, take, pos, Some, None, sym, refl, ap, ◌∙◌, add-one, arith}
+use Rattle.std.proofs.lemmas.List.{append-nil, take_all}
 use Rattle.cells.specs.Rows.{CellOf}
 use Rattle.group_by.specs.declared.keys.GroupByKeys.{GroupByKeys}
 use Rattle.group_by.specs.Groupings.{masked_cells, id_cells}
 use Rattle.group_by.specs.Keys.{keys_of}
-use Rattle.group_by.specs.Sets.{sets_of, ids}
-use Rattle.group_by.proofs.Ordinals.{marks_at}
-
--- ---- a mark
-
-module _ (groups : List (Vec Bool Global)) (s p : ℕ) where
-  pub no_set : length groups ≤ s → false ≡ get_or (get_or (sets_of groups) s []) p false
-  no_set past =
-      sym (ap (λ (marks : List Bool). get_or marks p false) (get_or_past (sets_of groups) s [] (omega (arith, length-map groups vec_items))))
-
-  module _ (g : Vec Bool Global) (l : s < length groups) (at : g ≡ get_or groups s g) where
-    pub mark_is : (r : Bool) → p < length (vec_items g) → r ≡ get_or (vec_items g) p r → r ≡ get_or (get_or (sets_of groups) s []) p false
-    mark_is r within read =
-        read
-        ∙ get_or_default (vec_items g) p r false within
-        ∙ ap (λ (marks : List Bool). get_or marks p false) (marks_at groups s g l at)
-
-    pub no_mark : length (vec_items g) ≤ p → false ≡ get_or (get_or (sets_of groups) s []) p false
-    no_mark past =
-        sym (get_or_past (vec_items g) p false past)
-        ∙ ap (λ (marks : List Bool). get_or marks p false) (marks_at groups s g l at)
-
--- ---- pushes
+use Rattle.group_by.specs.Sets.{ids}
 
 take_again : {X : Type 0} (n : ℕ) (xs ys : List X) → take n (take n xs ++ ys) ≡ take n (xs ++ ys)
 take_again zero xs ys = refl
@@ -60,18 +37,9 @@ cell_more columns marks row i m cell key key' l mark is e h =
     ∙ ap (take 7) (sym (masked_more columns marks row i l))
     ∙ ap (λ (n : ℕ). take 7 (masked_cells (take n columns) marks row)) (sym (add-one i))
 
-module _ (k : GroupByKeys) (s : ℕ) (key : List CellOf) where
-  pub id_pushed : (id : ℤ) (key' : List CellOf) → k.group_by.has_grouping_set ≡ true → id ≡ get_or (vec_items k.ids) s (pos 0)
-      → key' ≡ take 7 (key ++ Some id ∷ []) → key' ≡ take 7 (key ++ id_cells (keys_of k) s)
-  id_pushed id key' grouped is h =
-      let all = ids (keys_of k).sets in
-      let held : vec_items k.ids ≡ all = k.worked_out ∙ ap (λ (b : Bool). cond b all []) grouped in
-      h
-      ∙ ap (λ (z : ℤ). take 7 (key ++ Some z ∷ [])) (is ∙ ap (λ (zs : List ℤ). get_or zs s (pos 0)) held)
-      ∙ ap (λ (b : Bool). take 7 (key ++ cond b (Some (get_or all s (pos 0)) ∷ []) [])) (sym grouped)
-
-  pub no_id : k.group_by.has_grouping_set ≡ false → length key ≤ 7 → key ≡ take 7 (key ++ id_cells (keys_of k) s)
-  no_id plain short =
-      sym (take_all 7 key short)
-      ∙ ap (take 7) (sym (append-nil key))
-      ∙ ap (λ (b : Bool). take 7 (key ++ cond b (Some (get_or (ids (keys_of k).sets) s (pos 0)) ∷ []) [])) (sym plain)
+pub no_id : (k : GroupByKeys) (s : ℕ) (key : List CellOf) → k.group_by.has_grouping_set ≡ false → length key ≤ 7
+    → key ≡ take 7 (key ++ id_cells (keys_of k) s)
+no_id k s key plain short =
+    sym (take_all 7 key short)
+    ∙ ap (take 7) (sym (append-nil key))
+    ∙ ap (λ (b : Bool). take 7 (key ++ cond b (Some (get_or (ids (keys_of k).sets) s (pos 0)) ∷ []) [])) (sym plain)

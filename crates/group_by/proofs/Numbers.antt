@@ -1,12 +1,12 @@
 -- Marks read one by one behind an ordinal, and the bits that they take.
-use Rattle.std.proofs.Common.{◌≡◌, ℕ, suc, ◌+◌, ◌-◌, ◌*◌, ◌^◌, ◌<◌, ◌≤◌, Bool, true, false, cond, ltb, List, [], ◌∷◌, length, get_or, drop, Some, None, Ok, Err, fold, Option, Result, sym, refl, ap, ◌∙◌, subst, lt_of_lt_of_le, lt_of_le_of_lt, mul-le-mul_right, mul_assoc, mul_comm, add-mul, add-one, arith, pow_mono, pow-add}
+use Rattle.std.proofs.Common.{◌≡◌, ℕ, suc, ◌+◌, ◌-◌, ◌*◌, ◌^◌, ◌<◌, ◌≤◌, Bool, true, false, cond, ltb, List, [], ◌∷◌, length, get_or, drop, Some, None, fold, Option, sym, refl, ap, ◌∙◌, subst, lt_of_lt_of_le, lt_of_le_of_lt, mul-le-mul_right, mul_assoc, mul_comm, add-mul, add-one, arith, pow_mono, pow-add}
 use mir.Val.{bool_byte}
 use Rattle.std.proofs.lemmas.Nat.{mul-add-lt, leading_length, leading_top}
 use Rattle.std.proofs.lemmas.List.{at_drop_more}
 use Rattle.std.proofs.lemmas.Bool.{ltb-false}
 use Rattle.cells.specs.Refusals.{Refusal}
-use Rattle.group_by.specs.Marks.{with_mark, mark_value, digits, Digits, width_of}
-use Rattle.group_by.specs.Ids.{bits_of, group_id_fault, id_of, unless, group_id}
+use Rattle.group_by.specs.Marks.{with_mark, mark_value, digits, Digits}
+use Rattle.group_by.specs.Ids.{bits_of, group_id_fault, id_of}
 
 pub twice_pow : (n : ℕ) → 2 ^ suc n ≡ 2 ^ n * 2
 twice_pow n = ap (λ (k : ℕ). 2 ^ k) (sym (add-one n)) ∙ pow-add 2 n 1
@@ -82,19 +82,3 @@ id_fits marks o g h none =
     let value : mark_value marks < 2 ^ length marks = value_below marks in
     lt_of_lt_of_le (mul-add-lt o (2 ^ length marks) (mark_value marks) (2 ^ digits g) below value)
     (subst (λ (z : ℕ). z ≤ 2 ^ 64) (pow-add 2 (length marks) (digits g)) (pow_mono bits))
-
-module _ (marks : List Bool) (o g : ℕ) where
-  answer : Option Refusal → Result (ℕ × ℕ) Refusal
-  answer fault = unless fault (id_of marks o, width_of (bits_of marks g))
-
-  pub told-fault : (e : Refusal) → Some e ≡ group_id_fault marks o g → Err e ≡ group_id marks o g
-  unfolding answer
-  told-fault e h = ap answer h
-
-  pub told-id : (id bits width : ℕ) → None ≡ group_id_fault marks o g → id ≡ id_of marks o → bits ≡ digits g → width ≡ width_of (length marks + bits)
-      → Ok (id, width) ≡ group_id marks o g
-  unfolding answer
-  told-id id bits width h i b w =
-      ap (λ (k : ℕ). Ok (k, width)) i
-      ∙ ap (λ (k : ℕ). Ok (id_of marks o, k)) (w ∙ ap (λ (k : ℕ). width_of (length marks + k)) b)
-      ∙ ap answer h

@@ -1,4 +1,4 @@
-use Rattle.std.proofs.Common.{◌≡◌, ◌≤◌, take}
+use Rattle.std.proofs.Common.{◌≤◌, take}
 use Rattle.group_by.specs.Counts.{Counts}
 use Rattle.group_by.proofs.count.count_equal.Given as goal
 

@@ -1,9 +1,7 @@
-use Rattle.std.proofs.Common.{false, get_or, fold, sym, refl, ◌∙◌, arith}
+use Rattle.std.proofs.Common.{false, get_or, refl, arith}
 use mir.Val.{bool_byte}
-use Rattle.std.proofs.lemmas.List.{at_drop_all}
-use Rattle.group_by.specs.Marks.{with_mark}
 use Rattle.group_by.specs.Ids.{id_of}
-use Rattle.group_by.proofs.Numbers.{marks_behind, mark_more, mark_below}
+use Rattle.group_by.proofs.Numbers.{marks_behind, mark_below}
 use Rattle.group_by.proofs.group_id.full_id.Goals as goal
 
 pub loop-masked-init : goal.loop-masked-init
@@ -19,13 +17,3 @@ pub overflow_add-id : goal.overflow_add-id
 overflow_add-id c =
     let marks = c.args.group.now in
     omega (arith, mark_below marks c.loop-masked.masked-index c.loop-masked.id c.from.result (id_of marks c.args.ordinal) c.loop-masked-test.true c.from.ensures c.loop-masked.invariant)
-
-pub loop-masked-preserved : goal.loop-masked-preserved
-loop-masked-preserved c =
-    let marks = c.args.group.now in
-    mark_more marks c.loop-masked.masked-index c.loop-masked.id c.from.result (id_of marks c.args.ordinal) c.loop-masked-test.true c.from.ensures c.loop-masked.invariant
-
-pub returns : goal.returns
-returns c =
-    sym (at_drop_all (fold with_mark c.loop-masked.id) c.args.group.now c.loop-masked.masked-index c.loop-masked-test.false)
-    ∙ c.loop-masked.invariant

@@ -1,15 +1,10 @@
-use Rattle.std.proofs.Common.{◌≡◌, ℕ, Bool, cond, List, [], ◌++◌, get_or, take, None, vec_items, sym, ap, ◌∙◌}
-use Rattle.std.proofs.lemmas.List.{take_all}
+use Rattle.std.proofs.Common.{◌≡◌, Bool, cond, [], get_or, None, sym, ap, ◌∙◌}
 use Rattle.cells.specs.Keys.{key_cells}
 use Rattle.cells.specs.Views.{view_rows}
-use Rattle.group_by.specs.Groupings.{masked_cells, id_cells}
 use Rattle.group_by.specs.Keys.{keys_of}
-use Rattle.group_by.proofs.KeyCells.{cell_more, pushed}
+use Rattle.group_by.proofs.KeyCells.{cell_more}
 use Rattle.group_by.proofs.keys.GroupByKeys.evaluate_group_by.Goals as goal
 use Rattle.group_by.proofs.keys.GroupByKeys.evaluate_group_by.Goals.{then-is_masked, else-is_masked}
-
-pub loop-place-init : goal.loop-place-init
-loop-place-init c = c.new-key.ensures
 
 pub loop-place-preserved : goal.loop-place-preserved
 loop-place-preserved c =
@@ -23,15 +18,3 @@ loop-place-preserved c =
           w.cell-is ∙ w.cell-cell.ensures ∙ ap (λ (b : Bool). cond b None (get_or row (get_or columns i 0) None)) (sym w.if-is_masked.false)
     ] in
     cell_more columns (get_or (keys_of c.args.self.now).sets c.args.set []) row i c.is_masked.result c.if-is_masked.cell (key_cells c.loop-place.key) (key_cells c.push.new.self) c.loop-place-test.true c.is_masked.ensures is c.loop-place.invariant c.push.ensures
-
-pub returns : goal.returns
-returns c =
-    let k = c.args.self.now in
-    let columns = c.deref-column-items.result.now in
-    let marks = get_or (keys_of k).sets c.args.set [] in
-    let row = get_or (view_rows c.args.batch.now) c.args.row [] in
-    let id = id_cells (keys_of k) c.args.set in
-    let all : take c.loop-place.place columns ≡ vec_items k.group_by.columns =
-    take_all c.loop-place.place columns c.loop-place-test.false ∙ c.deref-column-items.ensures.value in
-    pushed (masked_cells (take c.loop-place.place columns) marks row) id _ _ c.loop-place.invariant c.push_id.ensures
-    ∙ ap (λ (cs : List ℕ). take 7 (masked_cells cs marks row ++ id)) all
