@@ -2,7 +2,7 @@
 
 ghost use Rattle.std.specs.Prelude.{◌≡◌, [], IfOk, slice_index_or};
 ghost use Rattle.accumulators.specs.Aggregations.{of_kind};
-ghost use Rattle.std.proofs.Common.{rules, arith};
+ghost use Rattle.std.proofs.Common.{rules};
 
 use crate::groups_accumulator::GroupsAccumulator;
 use crate::kind_groups::KindGroupsAccumulator;
@@ -21,7 +21,7 @@ impl<K: AggregateKind> KindGroupsAccumulator<K> {
 
     /// The state of a group; one that is not held is neutral.
     fn held(&self, group: usize) -> K::State
-        ensures { result ≡ slice_index_or self.now.states.items group kind.neutral }
+        ensures { result ≡ slice_index_or self.now.states.items group K.kind.neutral }
     {
         if group < self.states.len() {
             self.states[group]
@@ -38,7 +38,7 @@ impl<K: AggregateKind> GroupsAccumulator for KindGroupsAccumulator<K> {
 
     ghost aggregation = { of_kind K.AggregateKind.kind };
 
-    ghost lawful = { first_of (Prim.search rules, Prim.grind (arith, Self.row.coded.inj)) };
+    ghost lawful = { Prim.search rules };
 
     fn aggregates() -> usize {
         1

@@ -3,6 +3,8 @@
 //! `KindGroupsAccumulator` keeps the states of one aggregate of any kind, and `PairGroupsAccumulator` makes one accumulator of two.
 //! Room for 512 groups is made in `new`, so that no later call can fail.
 
+#![tactic(auto)]
+
 mod groups_accumulator;
 mod kind_groups;
 mod kind_groups_accumulator;

@@ -30,8 +30,8 @@ impl<P: GroupsAccumulator, Q: GroupsAccumulator> PairGroupsAccumulator<P, Q> {
 fn split_exprs<A: GroupsAccumulator>(
     exprs: &[AggregateExpr],
 ) -> (&[AggregateExpr], &[AggregateExpr])
-    ensures front { result.0.now ≡ take aggregation.aggregates exprs.now }
-    ensures back { result.1.now ≡ drop aggregation.aggregates exprs.now }
+    ensures front { result.0.now ≡ take A.aggregation.aggregates exprs.now }
+    ensures back { result.1.now ≡ drop A.aggregation.aggregates exprs.now }
 {
     let named = exprs.len();
     exprs.split_at(A::aggregates().min(named))

@@ -1,3 +1,4 @@
+-- The states are grown, and then each row is fed to that of its group.
 use Rattle.std.proofs.Common.{◌≡◌, ◌≤◌, [], length, get_or, vec_items, vec_len, sym, ap, ◌∙◌, arith}
 use Rattle.cells.specs.Views.{view_rows}
 use Rattle.accumulators.specs.Aggregations.{of_kind}
@@ -22,7 +23,7 @@ loop-row-preserved g c =
     elim c.if-place-total.branch [
       | then-place-total w ↦
           ap (λ s. vec_items s.states) w.self-is
-          ∙ fed-written a n place own v.items _ _ _ w.if-place-total.true enough w.index-before.ensures (w.own-own.ensures ∙ ap k.own w.first-argument.ensures) w.join.ensures
+          ∙ fed-written a n place own v.items _ _ _ w.if-place-total.true enough w.index-before.ensures (w.own-own.ensures ∙ ap k.own w.first_argument.ensures) w.join.ensures
       | else-place-total w ↦
           ap (λ s. vec_items s.states) w.self-is
           ∙ sym (fed-past a n place own v.items w.if-place-total.false)

@@ -1,3 +1,4 @@
+-- The results of the second stand behind those of the first, which end at `cut`, or past the end of `out`.
 use Rattle.std.proofs.Common.{◌^◌, ◌<◌, ◌++◌, length, sym, ap, ◌∙◌, rules}
 use Rattle.cells.specs.Rows.{overlaid}
 use Rattle.accumulators.specs.SideBySide.{get_or-side_by_side}

@@ -1,3 +1,4 @@
+-- The pair holds as many groups as the one that holds more.
 use Rattle.std.proofs.Common.{arith}
 use Rattle.accumulators.specs.SideBySide.{length-side_by_side}
 use Rattle.accumulators.proofs.pair.PairGroupsAccumulatorGroupsAccumulator.num_groups.Goals as goal

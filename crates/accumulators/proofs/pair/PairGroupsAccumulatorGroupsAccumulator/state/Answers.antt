@@ -1,3 +1,4 @@
+-- The state of the second stands behind that of the first, which ends at `cut`, or past the end of `out`.
 use Rattle.std.proofs.Common.{◌^◌, ◌<◌, ◌++◌, length, sym, ap, ◌∙◌, rules}
 use Rattle.cells.specs.Rows.{overlaid}
 use Rattle.accumulators.specs.SideBySide.{get_or-side_by_side}
@@ -10,7 +11,7 @@ returns-then-cut-end g c =
     let q = g.Q.GroupsAccumulator in
     let xs = c.args.out.now in
     let few : length xs < 2 ^ 64 = search rules in
-    second_behind _ _ xs p.aggregation.state_cells _ (g.met.P.GroupsAccumulator.lawful.shows_length _) c.state-cells-cut.ensures few _ c.state.ensures _ c.if-cut-end.true c.state-then-cut-end.ensures
+    second_behind _ _ xs p.aggregation.state_cells _ (g.met.P.GroupsAccumulator.lawful.shows_length _) c.state_cells-cut.ensures few _ c.state.ensures _ c.if-cut-end.true c.state-then-cut-end.ensures
     ∙ ap (λ s. overlaid (p.aggregation.shows s.0 ++ q.aggregation.shows s.1) xs) (sym (get_or-side_by_side p.aggregation.neutral q.aggregation.neutral (p.states c.args.self.now.first) (q.states c.args.self.now.second) c.args.group))
 
 pub returns-else-cut-end : goal.returns-else-cut-end
@@ -19,5 +20,5 @@ returns-else-cut-end g c =
     let q = g.Q.GroupsAccumulator in
     let xs = c.args.out.now in
     let few : length xs < 2 ^ 64 = search rules in
-    first_alone _ _ xs p.aggregation.state_cells _ (g.met.P.GroupsAccumulator.lawful.shows_length _) c.state-cells-cut.ensures few _ c.state.ensures c.if-cut-end.false
+    first_alone _ _ xs p.aggregation.state_cells _ (g.met.P.GroupsAccumulator.lawful.shows_length _) c.state_cells-cut.ensures few _ c.state.ensures c.if-cut-end.false
     ∙ ap (λ s. overlaid (p.aggregation.shows s.0 ++ q.aggregation.shows s.1) xs) (sym (get_or-side_by_side p.aggregation.neutral q.aggregation.neutral (p.states c.args.self.now.first) (q.states c.args.self.now.second) c.args.group))
