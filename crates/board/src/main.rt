@@ -1,5 +1,7 @@
 //! Reports the trace segments of a routed board by net and layer: `board FILE`.
 
+#![tactic(auto)]
+
 mod report;
 mod segments;
 

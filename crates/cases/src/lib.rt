@@ -1,5 +1,7 @@
 //! Examples worked out by hand, proved of the definitions that the calls of the other crates promise to follow.
 
+#![tactic(auto)]
+
 ghost use Rattle.std.specs.Prelude.{◌≡◌, true};
 ghost use Rattle.cases.specs.Worked.{WorkedCases};
 

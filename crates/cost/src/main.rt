@@ -1,6 +1,8 @@
 //! Measures what a row costs: the time to intern and to accumulate it, at 1 and at 500 held groups.
 //! The figures go to standard error, since no two runs have the same.
 
+#![tactic(auto)]
+
 use accumulators::{GroupsAccumulator, KindGroupsAccumulator};
 use aggregates::{AggregateExpr, Min};
 use anyhow::anyhow;
