@@ -1,5 +1,5 @@
 -- The keys of a row table, by the vectors that hold them.
-use Rattle.std.specs.Prelude.{◌≡◌, ℕ, ◌-◌, List, [], ◌∷◌, ◌++◌, map, length, take, drop, vec_items, vec_len}
+use Rattle.std.specs.Prelude.{◌≡◌, ℕ, ◌-◌, ◌≤◌, List, [], ◌∷◌, ◌++◌, map, length, take, drop, vec_items, vec_len}
 use Rattle.std.proofs.Common.{sym, ap, ◌∙◌, arith}
 use Rattle.std.proofs.lemmas.List.{length-map, map_push, take_all}
 use Rattle.cells.specs.Emits.{left}
@@ -13,6 +13,9 @@ use Rattle.group_values.specs.Emits.{emit_leaves}
 
 pub row_length : (t : GroupValuesRows) → length (row_keys t) ≡ vec_len t.keys
 row_length t = length-map (vec_items t.keys) key_cells ∙ sym t.keys.ok.0
+
+pub row_bounded : (t : GroupValuesRows) → length (row_keys t) ≤ 512
+row_bounded t = omega (arith, row_length t, t.room.0)
 
 pub row_pushed : (ks more : List Key) (k : Key) → more ≡ ks ++ k ∷ [] → map key_cells more ≡ map key_cells ks ++ key_cells k ∷ []
 row_pushed ks more k e = ap (map key_cells) e ∙ map_push key_cells ks k

@@ -22,6 +22,9 @@ module _ (t : GroupValuesSmall) where
   pub small_length : length (small_keys t) ≡ t.len
   small_length = length-map (take t.len t.slots) slot_key ∙ slots_length
 
+  pub small_bounded : length (small_keys t) ≤ 512
+  small_bounded = omega (arith, small_length, t.sized.1)
+
   -- the slots after an emission, which the rotated array begins with
   module _ (e : EmitTo) (count n : ℕ) (rotated : List ℕ) (drops : count ≡ dropped e t.len)
       (turned : rotated ≡ drop count t.slots ++ take count t.slots) (rest : n ≡ t.len - count) where

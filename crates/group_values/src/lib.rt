@@ -2,6 +2,8 @@
 //!
 //! The row table admits every key and finds it by a hash; the small table admits keys of one small cell and finds them by index.
 
+#![tactic(auto)]
+
 mod chain;
 mod group_values;
 mod hash;

@@ -2,8 +2,8 @@
 
 ghost use Rattle.std.specs.Prelude.{◌≡◌, true, [], IfOk};
 ghost use Rattle.group_values.specs.Rows.{row_keys};
-ghost use Rattle.std.proofs.Common.{arith, rules};
-ghost use Rattle.group_values.specs.RowsLemmas.{row_length};
+ghost use Rattle.std.proofs.Common.{rules};
+ghost use Rattle.group_values.specs.RowsLemmas.{row_bounded};
 
 use crate::chain::{add_link, find, rebuild};
 use crate::group_values::{GroupValues, drop_count};
@@ -32,11 +32,11 @@ impl GroupValues for GroupValuesRows {
 
     ghost admitted = { λ _. true };
 
-    ghost distinct = { first_of (Prim.search rules, Prim.grind (arith, Self.row.coded.inj)) };
+    ghost distinct = { λ t. t.apart };
 
-    ghost bounded = { λ t. omega (arith, row_length t, t.room.0) };
+    ghost bounded = { row_bounded };
 
-    ghost held = { first_of (Prim.search rules, Prim.grind (arith, Self.row.coded.inj)) };
+    ghost held = { Prim.search rules };
 
     fn admits(&self, _key: &Key) -> bool {
         true

@@ -4,8 +4,7 @@ ghost use Rattle.std.specs.Prelude.{◌≡◌, [], take};
 ghost use Rattle.group_values.specs.Slots.{small_key};
 ghost use Rattle.group_values.specs.Smalls.{small_keys};
 ghost use Rattle.group_values.specs.SlotsLemmas.{slots_distinct, slots_admitted};
-ghost use Rattle.group_values.specs.SmallsLemmas.{small_index, small_length};
-ghost use Rattle.std.proofs.Common.{arith};
+ghost use Rattle.group_values.specs.SmallsLemmas.{small_index, small_bounded};
 
 use crate::group_values::{GroupValues, drop_count};
 use crate::slot::{SLOTS, links_of, slot_key, slot_of};
@@ -32,7 +31,7 @@ impl GroupValues for GroupValuesSmall {
 
     ghost distinct = { λ t. slots_distinct (take t.len t.slots) t.links (small_index t) };
 
-    ghost bounded = { λ t. omega (arith, small_length t, t.sized.1) };
+    ghost bounded = { small_bounded };
 
     ghost held = { λ t. slots_admitted (take t.len t.slots) t.links (small_index t) };
 

@@ -1,3 +1,4 @@
+-- Each key is linked behind those before it.
 use Rattle.std.proofs.Common.{ℕ, ◌+◌, List, map, take, replicate, vec_items, vec_len, refl, ap, ◌∙◌, subst}
 use Rattle.std.proofs.lemmas.List.{take_all}
 use Rattle.cells.specs.Keys.{key_cells}
@@ -20,10 +21,10 @@ loop-key-preserved c =
     let i = c.loop-key.key-index in
     let k = c.key-item.result in (
       indexed_push (map key_cells (take i ks)) (map key_cells (take (i + 1) ks)) (key_cells k) c.bucket.result (vec_len c.loop-key.next) c.loop-key.heads
-          (vec_items c.loop-key.next) c.add-link.new.heads (vec_items c.add-link.new.next) (cells_more ks i k c.loop-key-test.true c.key-item.is)
-          c.bucket.ensures.is c.loop-key.next.ok.0 c.add-link.ensures.heads c.add-link.ensures.next c.loop-key.invariant.0,
-      c.add-link.ensures.len ∙ ap (λ (n : ℕ). n + 1) c.loop-key.invariant.1,
-      c.add-link.ensures.capacity ∙ c.loop-key.invariant.2,
+          (vec_items c.loop-key.next) c.add_link.new.heads (vec_items c.add_link.new.next) (cells_more ks i k c.loop-key-test.true c.key-item.is)
+          c.bucket.ensures.is c.loop-key.next.ok.0 c.add_link.ensures.heads c.add_link.ensures.next c.loop-key.invariant.0,
+      c.add_link.ensures.len ∙ ap (λ (n : ℕ). n + 1) c.loop-key.invariant.1,
+      c.add_link.ensures.capacity ∙ c.loop-key.invariant.2,
     )
 
 pub returns : goal.returns

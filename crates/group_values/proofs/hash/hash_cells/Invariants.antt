@@ -1,3 +1,4 @@
+-- The hash of the cells so far.
 use Rattle.std.proofs.Common.{◌≡◌, take}
 use Rattle.group_values.specs.Buckets.{hash_of}
 use Rattle.group_values.proofs.hash.hash_cells.Given as goal

@@ -1,3 +1,4 @@
+-- Each place is linked to its slot.
 use Rattle.std.proofs.Common.{ℕ, List, subst}
 use Rattle.std.proofs.lemmas.List.{take_all}
 use Rattle.group_values.specs.Slots.{SlotIndex}

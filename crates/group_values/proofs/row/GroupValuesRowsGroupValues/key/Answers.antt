@@ -1,3 +1,4 @@
+-- The key at the place, or that of no cells.
 use Rattle.std.proofs.Common.{[], vec_items, sym, ◌∙◌, arith}
 use Rattle.std.proofs.lemmas.List.{get_or_past}
 use Rattle.group_values.specs.Rows.{row_keys}

@@ -1,3 +1,4 @@
+-- As many keys as the vector has.
 use Rattle.std.proofs.Common.{sym, ◌∙◌}
 use Rattle.group_values.specs.RowsLemmas.{row_length}
 use Rattle.group_values.proofs.row.GroupValuesRowsGroupValues.len.Goals as goal

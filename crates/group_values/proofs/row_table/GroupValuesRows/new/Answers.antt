@@ -1,3 +1,4 @@
+-- The index of no keys.
 use Rattle.std.proofs.Common.{List, map, sym, ap, ◌∙◌, subst, arith}
 use Rattle.cells.specs.Keys.{key_cells}
 use Rattle.cells.specs.declared.key.Key.{Key}
@@ -6,16 +7,15 @@ use Rattle.group_values.specs.Tables.{Distinct}
 use Rattle.group_values.specs.TablesLemmas.{distinct_none}
 use Rattle.group_values.proofs.row_table.GroupValuesRows.new.Goals as goal
 
-pub invariant-of-result : goal.invariant-of-result
-invariant-of-result c =
-    let keys = c.in-ok-keys.ensures in
-    let next = c.in-ok-next.ensures in (
-      subst (λ (ks : List Key). Distinct (map key_cells ks)) (sym keys.items) distinct_none,
-      (
-        (
-          sym (ap (λ (ks : List Key). (index_of (map key_cells ks)).0) keys.items),
-          next.items ∙ sym (ap (λ (ks : List Key). (index_of (map key_cells ks)).1) keys.items),
-        ),
-        ((omega arith, omega arith, omega arith), tt),
-      ),
-    )
+pub invariant_of-result : goal.invariant_of-result
+invariant_of-result c =
+    let keys = c.in_ok-keys.ensures in
+    let next = c.in_ok-next.ensures in
+    record {
+      apart = subst (λ (ks : List Key). Distinct (map key_cells ks)) (sym keys.items) distinct_none;
+      indexed = (
+        sym (ap (λ (ks : List Key). (index_of (map key_cells ks)).0) keys.items),
+        next.items ∙ sym (ap (λ (ks : List Key). (index_of (map key_cells ks)).1) keys.items),
+      );
+      room = (omega arith, omega arith, omega arith);
+    }

@@ -1,3 +1,4 @@
+-- A key without a slot stays out, a slot with a link is found, and one without is added.
 use Rattle.std.proofs.Common.{◌≡◌, ◌-◌, ◌<◌, [], ◌∷◌, ◌++◌, length, get_or, take, Some, sym, ap, ◌∙◌, subst, arith}
 use Rattle.std.proofs.lemmas.List.{length-set}
 use Rattle.cells.specs.Keys.{key_cells}
@@ -9,45 +10,51 @@ use Rattle.group_values.specs.SmallsLemmas.{small_index, small_length, small_roo
 use Rattle.group_values.specs.TablesLemmas.{absent_out, interns_found, interns_new, interns_out}
 use Rattle.group_values.proofs.small.GroupValuesSmallGroupValues.intern.Goals as goal
 
-pub returns-in-err-slot : goal.returns-in-err-slot
-returns-in-err-slot c =
+pub returns-in_err-slot : goal.returns-in_err-slot
+returns-in_err-slot c =
     let t = c.args.self.now in
     let key = key_cells c.args.key.now in
-    let out = c.in-err-slot.ensures in
+    let out = c.in_err-slot.ensures in
     let absent = absent_out small_key (small_keys t) key (slots_admitted (take t.len t.slots) t.links (small_index t)) out in
     let i = interns_out small_key (small_keys t) key absent out in
-    record { answer = c.from-residual.ensures ∙ sym i.0; after = sym i.1 }
+    record { answer = c.from_residual.ensures ∙ sym i.0; after = sym i.1 }
 
 pub returns-then-link-gt0 : goal.returns-then-link-gt0
 returns-then-link-gt0 c =
     let t = c.args.self.now in
     let slots = take t.len t.slots in
-    let s = c.in-ok-slot.slot in
+    let s = c.in_ok-slot.slot in
     let key = key_cells c.args.key.now in
     let found = slots_found slots t.links (small_index t) s c.if-link-gt0.true in
-    let held = found.1 ∙ sym c.in-ok-slot.ensures.1 in
+    let held = found.1 ∙ sym c.in_ok-slot.ensures.1 in
     let apart = slots_distinct slots t.links (small_index t) in
     let i = interns_found small_key (small_keys t) key (get_or t.links s 0 - 1) apart found.0 held in
     record { answer = sym i.0; after = sym i.1 }
 
 pub bounds-self-place : goal.bounds-self-place
 bounds-self-place c =
-    small_room c.args.self.now c.in-ok-slot.slot c.in-ok-slot.ensures.0 (omega (arith, c.if-link-gt0.false))
+    small_room c.args.self.now c.in_ok-slot.slot c.in_ok-slot.ensures.0 (omega (arith, c.if-link-gt0.false))
 
-pub invariant-of-self : goal.invariant-of-self
-invariant-of-self c =
+pub invariant_of-self : goal.invariant_of-self
+invariant_of-self c =
     let t = c.args.self.now in
-    let s = c.in-ok-slot.slot in
+    let s = c.in_ok-slot.slot in
     let free : get_or t.links s 0 ≡ 0 = omega (arith, c.if-link-gt0.false) in
-    let room = small_room t s c.in-ok-slot.ensures.0 free in
-    let ix = small_index_push t s c.in-ok-slot.ensures.0 free in
-    ((length-set t.slots t.len s ∙ t.sized.0, omega (arith, room)), (ix.0, (ix.1, (ix.2, (ix.3, tt)))))
+    let room = small_room t s c.in_ok-slot.ensures.0 free in
+    let ix = small_index_push t s c.in_ok-slot.ensures.0 free in
+    record {
+      sized = (length-set t.slots t.len s ∙ t.sized.0, omega (arith, room));
+      below = ix.0;
+      counted = ix.1;
+      linked = ix.2;
+      leads = ix.3;
+    }
 
 pub returns : goal.returns
 returns c =
     let t = c.args.self.now in
-    let s = c.in-ok-slot.slot in
-    let small = c.in-ok-slot.ensures in
+    let s = c.in_ok-slot.slot in
+    let small = c.in_ok-slot.ensures in
     let free : get_or t.links s 0 ≡ 0 = omega (arith, c.if-link-gt0.false) in
     let key = key_cells c.args.key.now in
     let same = small.1 in

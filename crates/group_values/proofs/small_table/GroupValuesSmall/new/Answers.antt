@@ -1,6 +1,13 @@
+-- No slot is held, and no link leads anywhere.
 use Rattle.std.proofs.Common.{refl, arith}
 use Rattle.group_values.specs.SlotsLemmas.{index_none}
 use Rattle.group_values.proofs.small_table.GroupValuesSmall.new.Goals as goal
 
-pub invariant-of-result : goal.invariant-of-result
-invariant-of-result c = ((refl, omega arith), (index_none.0, (index_none.1, (index_none.2, (index_none.3, tt)))))
+pub invariant_of-result : goal.invariant_of-result
+invariant_of-result c = record {
+  sized = (refl, omega arith);
+  below = index_none.0;
+  counted = index_none.1;
+  linked = index_none.2;
+  leads = index_none.3;
+}
