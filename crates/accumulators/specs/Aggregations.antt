@@ -1,6 +1,6 @@
 -- What an accumulator of one or more aggregates keeps of a group, and the laws of it. Assumes nothing.
 use Rattle.std.specs.Prelude.{◌≡◌, ℕ, ◌+◌, List, [], ◌∷◌, ◌++◌, length, take, drop, None}
-use Rattle.std.specs.List.{AllByRecursion as All}
+use Rattle.std.specs.List.{AllByRecursion}
 use Rattle.cells.specs.Rows.{CellOf}
 use Rattle.aggregates.specs.declared.aggregate_expr.AggregateExpr.{AggregateExpr}
 use Rattle.aggregates.specs.Arguments.{argument_of, first_argument}
@@ -32,7 +32,7 @@ pub record Lawful {S : Type 0} (a : Aggregation S) : Type 0 where
   pub own_sound : (exprs : List AggregateExpr) (row : List CellOf) → a.sound (a.own exprs row)
   -- a row without arguments changes nothing
   pub own_absent : (exprs : List AggregateExpr) (row : List CellOf)
-      → All (λ e. argument_of e row ≡ None) exprs → a.own exprs row ≡ a.neutral
+      → AllByRecursion (λ e. argument_of e row ≡ None) exprs → a.own exprs row ≡ a.neutral
   pub shows_length : (s : S) → length (a.shows s) ≡ a.state_cells
   pub reads_shows : (s : S) → a.sound s → a.reads (a.shows s) ≡ s
   pub reads_sound : (cs : List CellOf) → a.sound (a.reads cs)
