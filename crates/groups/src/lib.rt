@@ -3,6 +3,8 @@
 //! What a stream does to its groups, one step at a time: rows are absorbed, groups go out, the others move down.
 //! A plan is made of settings that pass their questions.
 
+#![tactic(auto)]
+
 mod faults;
 mod grouping;
 mod held;

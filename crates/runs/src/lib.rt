@@ -1,5 +1,7 @@
 //! Any list of calls on a new stream, made one after the other.
 
+#![tactic(auto)]
+
 mod drive;
 mod script;
 

@@ -1,5 +1,7 @@
 //! The grouped aggregation stream.
 
+#![tactic(auto)]
+
 mod calls;
 mod closing;
 mod faults;
