@@ -46,7 +46,7 @@ module _ (admitted : List CellOf → Bool) (before ks : List (List CellOf)) wher
           places_are =
               places_is
               ∙ ap (λ (p : ℕ). places ++ p ∷ []) (given ∙ ap (λ (x : Option ℕ). unwrap_or x 512) (found ∙ ap (λ (t : List (List CellOf)). placed admitted t (key_cells key)) so_far.keys))
-              ∙ ap (λ (ps : List ℕ). ps ++ unwrap_or (placed admitted (interned_all admitted before (take i ks)) (key_cells key)) 512 ∷ []) so_far.places-are
+              ∙ ap (λ (ps : List ℕ). ps ++ unwrap_or (placed admitted (interned_all admitted before (take i ks)) (key_cells key)) 512 ∷ []) so_far.places_are
               ∙ sym (placed_all-push admitted before (take i ks) (key_cells key))
               ∙ ap (placed_all admitted before) step;
         }
@@ -57,7 +57,7 @@ module _ (admitted : List CellOf → Bool) (before ks : List (List CellOf)) wher
         record {
           keys = so_far.keys ∙ ap (interned_all admitted before) whole;
           keeps = so_far.keeps ∙ whole;
-          places_are = so_far.places-are ∙ ap (placed_all admitted before) whole;
+          places_are = so_far.places_are ∙ ap (placed_all admitted before) whole;
         }
 
 -- the key of row i among the keys of the first 512 rows

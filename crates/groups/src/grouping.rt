@@ -3,7 +3,7 @@
 ghost use Rattle.std.specs.Prelude.{◌≡◌, ◌<◌, ◌≤◌, true, false, [], length, replicate, slice_index_or};
 ghost use Rattle.cells.specs.Keys.{key_cells};
 ghost use Rattle.group_by.specs.Sets.{sets_of, same_marks, id_at};
-ghost use Rattle.group_by.specs.Groupings.{group_by, masked_key};
+ghost use Rattle.group_by.specs.Groupings.{group_by as grouping_of, masked_key};
 ghost use Rattle.model.specs.Questions.{every, sets_ok, masks_ok};
 ghost use Rattle.groups.specs.Settings.{given_setup, Sized};
 
@@ -53,8 +53,8 @@ fn set_id(groups: &[Vec<bool>], set: usize) -> i64
 
 /// The key of a row that a set masks whole.
 fn masked_key(group_by: &PhysicalGroupBy, set: usize) -> Key
-    requires { Sized (group_by group_by.now) × (set < length (group_by group_by.now).sets) }
-    ensures { (group_by group_by.now).grouped ≡ true → key_cells result ≡ masked_key (group_by group_by.now) set }
+    requires { Sized (grouping_of group_by.now) × (set < length (grouping_of group_by.now).sets) }
+    ensures { (grouping_of group_by.now).grouped ≡ true → key_cells result ≡ masked_key (grouping_of group_by.now) set }
 {
     let mut key = Key::new();
     for _ in 0..group_by.columns.len() {
@@ -66,8 +66,8 @@ fn masked_key(group_by: &PhysicalGroupBy, set: usize) -> Key
 
 /// Whether the table admits the key of each set that masks a row whole.
 fn masks_ok<G: GroupValues, A: GroupsAccumulator>(settings: &Settings, table: &G) -> bool
-    requires { Sized (group_by settings.now.group_by) × ((group_by settings.now.group_by).grouped ≡ true) }
-    ensures { result ≡ masks_ok (given_setup A.GroupsAccumulator.aggregation G.GroupValues.admitted settings.now) 0 (group_by settings.now.group_by).sets }
+    requires { Sized (grouping_of settings.now.group_by) × ((grouping_of settings.now.group_by).grouped ≡ true) }
+    ensures { result ≡ masks_ok (given_setup A.GroupsAccumulator.aggregation G.GroupValues.admitted settings.now) 0 (grouping_of settings.now.group_by).sets }
 {
     let groups = &settings.group_by.groups;
     for set in 0..groups.len() {
@@ -83,7 +83,7 @@ fn masks_ok<G: GroupValues, A: GroupsAccumulator>(settings: &Settings, table: &G
 
 /// The fourth question.
 pub(crate) fn sets_ok<G: GroupValues, A: GroupsAccumulator>(settings: &Settings, table: &G) -> bool
-    requires { length (group_by settings.now.group_by).columns ≤ 6 }
+    requires { length (grouping_of settings.now.group_by).columns ≤ 6 }
     ensures { result ≡ sets_ok (given_setup A.GroupsAccumulator.aggregation G.GroupValues.admitted settings.now) }
 {
     let columns = settings.group_by.columns.len();

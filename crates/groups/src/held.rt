@@ -2,14 +2,12 @@
 
 ghost use Rattle.std.specs.Prelude.{◌≤◌, vec_capacity};
 
-use accumulators::GroupsAccumulator;
 use cells::Key;
-use group_values::GroupValues;
 use order::GroupOrdering;
 
 /// The groups that are held, and the buffers of the batch at hand.
 #[derive(Drop)]
-pub struct HeldGroups<G: GroupValues, A: GroupsAccumulator> {
+pub struct HeldGroups<G, A> {
     pub(crate) group_values: G,
     pub(crate) accumulator: A,
     pub(crate) group_ordering: GroupOrdering,
@@ -23,7 +21,7 @@ pub struct HeldGroups<G: GroupValues, A: GroupsAccumulator> {
 
 /// The parts of held groups for whose buffers there was no memory, as they were passed.
 #[derive(Drop)]
-pub struct HeldRefused<G: GroupValues, A: GroupsAccumulator> {
+pub struct HeldRefused<G, A> {
     pub group_values: G,
     pub accumulator: A,
 }

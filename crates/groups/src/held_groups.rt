@@ -27,9 +27,9 @@ use output::{OutputRow, Waiting};
 impl<G: GroupValues, A: GroupsAccumulator> HeldGroups<G, A> {
     /// Interns the keys of the batch's rows for a set, and keeps keys and places.
     fn intern_rows(&mut self, plan: &Plan, batch: &Batch<'_, '_>, set: usize)
-        ensures table { keys self.new.group_values ≡ interned_all admitted (keys self.old.group_values) (map (row_key (settings_of plan.now) set) (take 512 (view_rows batch.now))) }
+        ensures table { G.keys self.new.group_values ≡ interned_all G.admitted (G.keys self.old.group_values) (map (row_key (settings_of plan.now) set) (take 512 (view_rows batch.now))) }
         ensures keys { map key_cells self.new.current_group_keys.items ≡ map (row_key (settings_of plan.now) set) (take 512 (view_rows batch.now)) }
-        ensures places { self.new.current_group_indices.items ≡ placed_all admitted (keys self.old.group_values) (map (row_key (settings_of plan.now) set) (take 512 (view_rows batch.now))) }
+        ensures places { self.new.current_group_indices.items ≡ placed_all G.admitted (G.keys self.old.group_values) (map (row_key (settings_of plan.now) set) (take 512 (view_rows batch.now))) }
         ensures accumulator { self.new.accumulator ≡ self.old.accumulator }
         ensures ordering { self.new.group_ordering ≡ self.old.group_ordering }
     {
@@ -45,7 +45,7 @@ impl<G: GroupValues, A: GroupsAccumulator> HeldGroups<G, A> {
 
     /// The batch's rows are interned and accumulated under their keys for a set.
     pub fn absorb_set(&mut self, plan: &Plan, batch: &Batch<'_, '_>, set: usize)
-        ensures { held_of keys states self.new ≡ absorbed_set (setup_of aggregation admitted plan.now) (held_of keys states self.old) (take 512 (view_rows batch.now)) set }
+        ensures { held_of G.keys A.states self.new ≡ absorbed_set (setup_of A.aggregation G.admitted plan.now) (held_of G.keys A.states self.old) (take 512 (view_rows batch.now)) set }
     {
         let starting_num_groups = self.group_values.len();
         self.intern_rows(plan, batch, set);
@@ -67,7 +67,7 @@ impl<G: GroupValues, A: GroupsAccumulator> HeldGroups<G, A> {
 
     /// The same for each set, one after the other.
     pub fn absorb(&mut self, plan: &Plan, batch: &Batch<'_, '_>)
-        ensures { held_of keys states self.new ≡ absorbed (setup_of aggregation admitted plan.now) (held_of keys states self.old) (take 512 (view_rows batch.now)) }
+        ensures { held_of G.keys A.states self.new ≡ absorbed (setup_of A.aggregation G.admitted plan.now) (held_of G.keys A.states self.old) (take 512 (view_rows batch.now)) }
     {
         for set in 0..plan.num_sets() {
             self.absorb_set(plan, batch, set);
@@ -76,8 +76,8 @@ impl<G: GroupValues, A: GroupsAccumulator> HeldGroups<G, A> {
 
     /// Interns the key of each wholly masked grouping set; its state is neutral.
     fn make_totals(&mut self, plan: &Plan)
-        ensures table { keys self.new.group_values ≡ interned_all admitted (keys self.old.group_values) (grand_keys (setup_of aggregation admitted plan.now)) }
-        ensures states { states self.new.accumulator ≡ updated aggregation plan.now.exprs.items [] [] (length (keys self.new.group_values)) (states self.old.accumulator) }
+        ensures table { G.keys self.new.group_values ≡ interned_all G.admitted (G.keys self.old.group_values) (grand_keys (setup_of A.aggregation G.admitted plan.now)) }
+        ensures states { A.states self.new.accumulator ≡ updated A.aggregation plan.now.exprs.items [] [] (length (G.keys self.new.group_values)) (A.states self.old.accumulator) }
         ensures ordering { self.new.group_ordering ≡ self.old.group_ordering }
     {
         for set in 0..plan.num_sets() {
@@ -94,7 +94,7 @@ impl<G: GroupValues, A: GroupsAccumulator> HeldGroups<G, A> {
 
     /// The input is at its end: all groups are finished, and where none is held the totals are made.
     pub fn end(&mut self, plan: &Plan)
-        ensures { held_of keys states self.new ≡ totalled (setup_of aggregation admitted plan.now) (groups (keys self.old.group_values) (states self.old.accumulator) (done (order_of self.old.group_ordering))) }
+        ensures { held_of G.keys A.states self.new ≡ totalled (setup_of A.aggregation G.admitted plan.now) (groups (G.keys self.old.group_values) (A.states self.old.accumulator) (done (order_of self.old.group_ordering))) }
     {
         self.group_ordering.input_done();
         if self.group_values.is_empty() {
@@ -104,7 +104,7 @@ impl<G: GroupValues, A: GroupsAccumulator> HeldGroups<G, A> {
 
     /// The groups that go out are gone, and the others move down.
     pub fn shed(&mut self, emit_to: EmitTo)
-        ensures { held_of keys states self.new ≡ shed emit_to (held_of keys states self.old) }
+        ensures { held_of G.keys A.states self.new ≡ shed emit_to (held_of G.keys A.states self.old) }
     {
         self.group_values.emit(emit_to);
         self.accumulator.emit(emit_to);
@@ -115,14 +115,14 @@ impl<G: GroupValues, A: GroupsAccumulator> HeldGroups<G, A> {
 
     /// How many groups are held.
     pub fn len(&self) -> usize
-        ensures { result ≡ length (held_of keys states self.now).keys }
+        ensures { result ≡ length (held_of G.keys A.states self.now).keys }
     {
         self.group_values.len()
     }
 
     /// The bytes that the groups need, if a state's cells are few.
     pub fn need(&self, plan: &Plan) -> usize
-        ensures { Narrow aggregation → result ≡ need (setup_of aggregation admitted plan.now) (length (held_of keys states self.now).keys) }
+        ensures { Narrow A.aggregation → result ≡ need (setup_of A.aggregation G.admitted plan.now) (length (held_of G.keys A.states self.now).keys) }
     {
         let cells = plan.key_width().saturating_add(A::state_cells());
         self.group_values
@@ -133,7 +133,7 @@ impl<G: GroupValues, A: GroupsAccumulator> HeldGroups<G, A> {
 
     /// The first row, and its first set, whose key the table does not admit.
     pub fn first_refused(&self, plan: &Plan, batch: &Batch<'_, '_>) -> Option<(usize, usize)>
-        ensures { result ≡ key_out (setup_of aggregation admitted plan.now) 0 (view_rows batch.now) }
+        ensures { result ≡ key_out (setup_of A.aggregation G.admitted plan.now) 0 (view_rows batch.now) }
     {
         'scan: {
             for row in 0..batch.num_rows() {
@@ -149,7 +149,7 @@ impl<G: GroupValues, A: GroupsAccumulator> HeldGroups<G, A> {
 
     /// A group as it goes out: its key, and behind it its state or its results.
     fn row(&self, plan: &Plan, group: usize) -> OutputRow
-        ensures { Narrow aggregation → row_cells result ≡ out_row (setup_of aggregation admitted plan.now) (slice_index_or (keys self.now.group_values) group []) (slice_index_or (states self.now.accumulator) group aggregation.neutral) }
+        ensures { Narrow A.aggregation → row_cells result ≡ out_row (setup_of A.aggregation G.admitted plan.now) (slice_index_or (G.keys self.now.group_values) group []) (slice_index_or (A.states self.now.accumulator) group A.aggregation.neutral) }
     {
         let key = self.group_values.key(group);
         match plan.mode {
@@ -160,7 +160,7 @@ impl<G: GroupValues, A: GroupsAccumulator> HeldGroups<G, A> {
 
     /// How many groups go out.
     fn emitted(&self, emit_to: EmitTo) -> usize
-        ensures { result ≡ dropped emit_to (length (keys self.now.group_values)) }
+        ensures { result ≡ dropped emit_to (length (G.keys self.now.group_values)) }
     {
         match emit_to {
             EmitTo::All => self.group_values.len(),
@@ -170,7 +170,7 @@ impl<G: GroupValues, A: GroupsAccumulator> HeldGroups<G, A> {
 
     /// Puts the groups that go out to wait, in the place of whatever waited.
     pub fn write_rows(&self, plan: &Plan, emit_to: EmitTo, waiting: &mut Waiting)
-        ensures { Narrow aggregation → waiting_rows waiting.new ≡ emission (setup_of aggregation admitted plan.now) emit_to (held_of keys states self.now) }
+        ensures { Narrow A.aggregation → waiting_rows waiting.new ≡ emission (setup_of A.aggregation G.admitted plan.now) emit_to (held_of G.keys A.states self.now) }
     {
         waiting.clear();
         for group in 0..self.emitted(emit_to) {
@@ -180,7 +180,7 @@ impl<G: GroupValues, A: GroupsAccumulator> HeldGroups<G, A> {
 
     /// Puts the rows of a batch to wait, each with its own state, in the place of whatever waited.
     pub fn convert_rows(&self, plan: &Plan, batch: &Batch<'_, '_>, waiting: &mut Waiting)
-        ensures { Narrow aggregation → is_partial plan.now.mode ≡ true → waiting_rows waiting.new ≡ converted (setup_of aggregation admitted plan.now) (take 512 (view_rows batch.now)) }
+        ensures { Narrow A.aggregation → is_partial plan.now.mode ≡ true → waiting_rows waiting.new ≡ converted (setup_of A.aggregation G.admitted plan.now) (take 512 (view_rows batch.now)) }
     {
         waiting.clear();
         for row in 0..batch.num_rows().min(MAX_BATCH_ROWS) {

@@ -5,8 +5,8 @@ use Rattle.group_by.proofs.KeyCells.{pushed}
 use Rattle.groups.proofs.Marks.{sized_set, masked_is}
 use Rattle.groups.proofs.grouping.masked_key.Goals as goal
 
-pub set-id-requires : goal.set-id-requires
-set-id-requires c = sized_set c.args.group-by.now c.deref.result.now c.args.set c.deref.ensures.value c.requires.0 c.requires.1
+pub set_id-requires : goal.set_id-requires
+set_id-requires c = sized_set c.args.group_by.now c.deref.result.now c.args.set c.deref.ensures.value c.requires.0 c.requires.1
 
 pub loop-preserved : goal.loop-preserved
 loop-preserved c =
@@ -15,7 +15,7 @@ loop-preserved c =
 
 pub returns : goal.returns
 returns c grouped =
-    let g = c.args.group-by.now in
+    let g = c.args.group_by.now in
     let all : c.loop.counter ≡ length (vec_items g.columns) = omega arith in
-    let f : SFits w64 c.set-id.result = search rules in
-    masked_is g c.deref.result.now c.args.set c.deref.ensures.value c.requires.0 c.requires.1 c.loop.counter _ _ _ grouped all (to_z-of_z w64 c.set-id.result f ∙ c.set-id.ensures) c.loop.invariant c.push-2.ensures
+    let f : SFits w64 c.set_id.result = search rules in
+    masked_is g c.deref.result.now c.args.set c.deref.ensures.value c.requires.0 c.requires.1 c.loop.counter _ _ _ grouped all (to_z-of_z w64 c.set_id.result f ∙ c.set_id.ensures) c.loop.invariant c.push-2.ensures

@@ -5,10 +5,10 @@ use Rattle.group_by.proofs.Ordinals.{marks_at}
 use Rattle.groups.specs.Settings.{given_setup}
 use Rattle.groups.proofs.Marks.{kept_more, admitted_more, refused-here, masks_all}
 use Rattle.groups.proofs.grouping.masks_ok.Goals as goal
-use Rattle.groups.proofs.grouping.masks_ok.Goals.{then-all-masked+else-not-admits, else-all-masked}
+use Rattle.groups.proofs.grouping.masks_ok.Goals.{then-all_masked+else-not-admits, Else-all_masked}
 
-pub masked-key-key-requires : goal.masked-key-key-requires
-masked-key-key-requires g c =
+pub masked_key-key-requires : goal.masked_key-key-requires
+masked_key-key-requires g c =
     let groups = vec_items c.args.settings.now.group_by.groups in
     (c.requires.0, omega (arith, length-map groups vec_items))
 
@@ -21,11 +21,11 @@ loop-set-preserved g c =
     let l : s < length sets = omega (arith, length-map groups vec_items) in
     let l' : s < length groups = omega arith in
     let is : c.deref.result.now ≡ get_or sets s [] = c.deref.ensures.value ∙ marks_at groups s c.index.result.now l' c.index.ensures in
-    elim c.if-all-masked.branch [
-      | then-all-masked+else-not-admits w ↦
-          admitted_more u sets s c.loop-set.invariant l c.deref.result.now c.all-masked.result is c.all-masked.ensures _ w.admits.result (w.masked-key-key.ensures c.requires.1) w.admits.ensures w.if-not-admits.false
-      | else-all-masked w ↦
-          kept_more u sets s c.loop-set.invariant l c.deref.result.now c.all-masked.result is c.all-masked.ensures w.if-all-masked.false
+    elim c.if-all_masked.branch [
+      | then-all_masked+else-not-admits w ↦
+          admitted_more u sets s c.loop-set.invariant l c.deref.result.now c.all_masked.result is c.all_masked.ensures _ w.admits.result (w.masked_key-key.ensures c.requires.1) w.admits.ensures w.if-not-admits.false
+      | Else-all_masked w ↦
+          kept_more u sets s c.loop-set.invariant l c.deref.result.now c.all_masked.result is c.all_masked.ensures w.if-all_masked.false
     ]
 
 pub returns-then-not-admits : goal.returns-then-not-admits
@@ -37,7 +37,7 @@ returns-then-not-admits g c =
     let l : s < length sets = omega (arith, length-map groups vec_items) in
     let l' : s < length groups = omega arith in
     let is : c.deref.result.now ≡ get_or sets s [] = c.deref.ensures.value ∙ marks_at groups s c.index.result.now l' c.index.ensures in
-    refused-here u sets s c.loop-set.invariant l c.deref.result.now c.all-masked.result is c.all-masked.ensures _ c.admits.result (c.masked-key-key.ensures c.requires.1) c.admits.ensures c.if-all-masked.true c.if-not-admits.true
+    refused-here u sets s c.loop-set.invariant l c.deref.result.now c.all_masked.result is c.all_masked.ensures _ c.admits.result (c.masked_key-key.ensures c.requires.1) c.admits.ensures c.if-all_masked.true c.if-not-admits.true
 
 pub returns : goal.returns
 returns g c =

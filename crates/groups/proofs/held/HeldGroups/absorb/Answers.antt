@@ -10,12 +10,12 @@ pub loop-set-preserved : goal.loop-set-preserved
 loop-set-preserved g c =
     let u = setup_of g.A.GroupsAccumulator.aggregation g.G.GroupValues.admitted c.args.plan.now in
     let rows = take 512 (view_rows c.args.batch.now) in
-    set_more u _ _ rows c.loop-set.set c.num-sets-set-end.result c.loop-set-test.true c.absorb-set.ensures ∙ c.loop-set.invariant
+    set_more u _ _ rows c.loop-set.set c.num_sets-set-end.result c.loop-set-test.true c.absorb_set.ensures ∙ c.loop-set.invariant
 
 pub returns : goal.returns
 returns g c =
     let u = setup_of g.A.GroupsAccumulator.aggregation g.G.GroupValues.admitted c.args.plan.now in
     let rows = take 512 (view_rows c.args.batch.now) in
-    sym (sets_all u _ rows c.loop-set.set c.num-sets-set-end.result c.loop-set-test.false)
+    sym (sets_all u _ rows c.loop-set.set c.num_sets-set-end.result c.loop-set-test.false)
     ∙ c.loop-set.invariant
-    ∙ ap (λ (n : ℕ). absorbed_from u (held_of g.G.GroupValues.keys g.A.GroupsAccumulator.states c.args.self.now) rows 0 n) c.num-sets-set-end.ensures
+    ∙ ap (λ (n : ℕ). absorbed_from u (held_of g.G.GroupValues.keys g.A.GroupsAccumulator.states c.args.self.now) rows 0 n) c.num_sets-set-end.ensures

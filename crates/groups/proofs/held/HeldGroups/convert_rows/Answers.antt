@@ -24,11 +24,11 @@ loop-row-preserved g c narrow partial =
     let exprs = vec_items c.args.plan.now.exprs in
     let key = row_key (settings_of c.args.plan.now) 0 row in
     let turn : List CellOf → List CellOf = λ r. out_row u (row_key (settings_of c.args.plan.now) 0 r) (a.own exprs r) in
-    let inside : i < min (length rows) 512 = omega (arith, c.loop-row-test.true, c.min-row-end.ensures, c.num-rows.ensures) in
+    let inside : i < min (length rows) 512 = omega (arith, c.loop-row-test.true, c.min-row-end.ensures, c.num_rows.ensures) in
     put_more (converted u (take 512 rows)) i _ _ _ _ _ [] (c.loop-row.invariant narrow partial) (omega (arith, inside, keys_length turn rows)) (omega (arith, inside))
-    (c.of-row.ensures
-    ∙ ap (λ (es : List AggregateExpr). key_cells c.row-key-key.result ++ take 8 (a.shows (a.own es row))) c.deref.ensures.value
-    ∙ ap (λ (cs : List CellOf). cs ++ take 8 (a.shows (a.own exprs row))) c.row-key-key.ensures
+    (c.of_row.ensures
+    ∙ ap (λ (es : List AggregateExpr). key_cells c.row_key-key.result ++ take 8 (a.shows (a.own es row))) c.deref.ensures.value
+    ∙ ap (λ (cs : List CellOf). cs ++ take 8 (a.shows (a.own exprs row))) c.row_key-key.ensures
     ∙ ap (λ (cs : List CellOf). key ++ cs) (take_all 8 (a.shows (a.own exprs row)) (omega (arith, g.met.A.GroupsAccumulator.lawful.shows_length (a.own exprs row), narrow.states)))
     ∙ sym (ap (λ (b : Bool). key ++ cond b (a.shows (a.own exprs row)) (a.results (a.own exprs row))) partial)
     ∙ key_at turn rows i (omega (arith, inside)) (omega (arith, inside)))
@@ -41,4 +41,4 @@ returns g c narrow partial =
     let rows = view_rows c.args.batch.now in
     let turn : List CellOf → List CellOf = λ r. out_row u (row_key (settings_of c.args.plan.now) 0 r) (a.own (vec_items c.args.plan.now.exprs) r) in
     (c.loop-row.invariant narrow partial).rows
-    ∙ take_all c.loop-row.row (converted u (take 512 rows)) (omega (arith, c.loop-row-test.false, c.min-row-end.ensures, c.num-rows.ensures, keys_length turn rows))
+    ∙ take_all c.loop-row.row (converted u (take 512 rows)) (omega (arith, c.loop-row-test.false, c.min-row-end.ensures, c.num_rows.ensures, keys_length turn rows))

@@ -13,12 +13,12 @@ loop-row-preserved g c =
     let key = row_key (settings_of c.args.plan.now) c.args.set in
     let rows = view_rows c.args.batch.now in
     let i = c.loop-row.row in
-    let inside : i < min (length rows) 512 = omega (arith, c.loop-row-test.true, c.min-row-end.ensures, c.num-rows.ensures) in
-    let at = c.row-key-key.ensures ∙ key_at key rows i (omega (arith, inside)) (omega (arith, inside)) in (
+    let inside : i < min (length rows) 512 = omega (arith, c.loop-row-test.true, c.min-row-end.ensures, c.num_rows.ensures) in
+    let at = c.row_key-key.ensures ∙ key_at key rows i (omega (arith, inside)) (omega (arith, inside)) in (
       interned-more g.G.GroupValues.admitted (g.G.GroupValues.keys c.args.self.now.group_values) (map key (take 512 rows)) i _ _ _ c.loop-row.invariant.0
-          c.row-key-key.result _ c.intern.result _ c.unwrap-or-place.result _ (omega (arith, inside, keys_length key rows)) at c.intern.ensures.after c.intern.ensures.answer c.unwrap-or-place.ensures c.push-reserved.ensures.items c.push-reserved-in-loop-row.ensures.items,
-      c.push-reserved.ensures.len ∙ ap (λ (n : ℕ). n + 1) c.loop-row.invariant.1,
-      c.push-reserved-in-loop-row.ensures.len ∙ ap (λ (n : ℕ). n + 1) c.loop-row.invariant.2,
+          c.row_key-key.result _ c.intern.result _ c.unwrap_or-place.result _ (omega (arith, inside, keys_length key rows)) at c.intern.ensures.after c.intern.ensures.answer c.unwrap_or-place.ensures c.push_reserved.ensures.items c.push_reserved-in-loop-row.ensures.items,
+      c.push_reserved.ensures.len ∙ ap (λ (n : ℕ). n + 1) c.loop-row.invariant.1,
+      c.push_reserved-in-loop-row.ensures.len ∙ ap (λ (n : ℕ). n + 1) c.loop-row.invariant.2,
       c.loop-row.invariant.3,
       c.loop-row.invariant.4,
     )
@@ -28,7 +28,7 @@ returns g c =
     let key = row_key (settings_of c.args.plan.now) c.args.set in
     let rows = view_rows c.args.batch.now in
     let ks = map key (take 512 rows) in
-    let end : length ks ≤ c.loop-row.row = omega (arith, c.loop-row-test.false, c.min-row-end.ensures, c.num-rows.ensures, keys_length key rows) in
+    let end : length ks ≤ c.loop-row.row = omega (arith, c.loop-row-test.false, c.min-row-end.ensures, c.num_rows.ensures, keys_length key rows) in
     let all = interned-all g.G.GroupValues.admitted (g.G.GroupValues.keys c.args.self.now.group_values) ks c.loop-row.row _ _ _ c.loop-row.invariant.0 end in
     let whole : take (length ks) ks ≡ ks = take_all (length ks) ks (omega arith) in
     record {

@@ -9,5 +9,5 @@ use Rattle.groups.proofs.plan.Plan.masked_key.Goals as goal
 pub returns : goal.returns
 returns c =
     let st = settings_of c.args.self.now in
-    c.masked-key.ensures
+    c.masked_key.ensures
     ∙ take_all 7 (masked_key st.group_by c.args.set) (omega (arith, masked_key-length st c.args.set, width_within st c.args.self.now.few_keys))

@@ -11,5 +11,5 @@ pub returns : goal.returns
 returns c =
     let st = settings_of c.args.self.now in
     let row = get_or (view_rows c.args.batch.now) c.args.row [] in
-    c.evaluate-group-by.ensures
+    c.evaluate_group_by.ensures
     ∙ take_all 7 (row_key st c.args.set row) (omega (arith, key_length st c.args.set row, width_within st c.args.self.now.few_keys))

@@ -11,25 +11,25 @@ returns-in-Some g c =
     let r = refusal_is _ c.in-Some.fault c.in-Some.ensures in
     (r.0, refl, λ m. absurd (r.1 m))
 
-pub invariant-of-result : goal.invariant-of-result
-invariant-of-result g c =
+pub invariant_of-result : goal.invariant_of-result
+invariant_of-result g c =
     let u = given_setup g.A.GroupsAccumulator.aggregation g.G.GroupValues.admitted c.args.settings in
-    let none : settings_fault u c.args.parts-are-new ≡ None = no_refusal _ c.in-default.ensures in
+    let none : settings_fault u c.args.parts_are_new ≡ None = no_refusal _ c.in_default.ensures in
     let same = sym c.in-Ok.ensures.1 in (
-      subst (λ (b : PhysicalGroupBy). length (group_by b).columns ≤ 6) same (few_keys u c.args.parts-are-new none),
-      (subst (λ (b : PhysicalGroupBy). length (group_by b).sets ≤ 8) same (few_sets u c.args.parts-are-new none), (some_rows u c.args.parts-are-new none, tt)),
+      subst (λ (b : PhysicalGroupBy). length (group_by b).columns ≤ 6) same (few_keys u c.args.parts_are_new none),
+      (subst (λ (b : PhysicalGroupBy). length (group_by b).sets ≤ 8) same (few_sets u c.args.parts_are_new none), (some_rows u c.args.parts_are_new none, tt)),
     )
 
 pub returns-in-Ok : goal.returns-in-Ok
 returns-in-Ok g c = (
-  no_refusal _ c.in-default.ensures,
+  no_refusal _ c.in_default.ensures,
   ap (λ (b : PhysicalGroupBy). given_settings (grouping c.args.settings b)) c.in-Ok.ensures.1,
   c.in-Ok.ensures.2,
 )
 
 pub returns-in-Err : goal.returns-in-Err
 returns-in-Err g c = (
-  sym (no_refusal _ c.in-default.ensures),
+  sym (no_refusal _ c.in_default.ensures),
   ap (grouping c.args.settings) c.in-Err.ensures.1,
   λ _. faulty_grouped (group_by c.args.settings.group_by) _ c.in-Err.ensures.0,
 )
