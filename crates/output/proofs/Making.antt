@@ -89,11 +89,3 @@ module _ (key shown row part : List CellOf) (k n : ℕ) (l : Lent key shown row 
       ap (take (k + n)) (whole ∙ sym (append_assoc key part (drop (k + n) row)))
       ∙ take_at (key ++ part) (drop (k + n) row) (k + n) (omega (arith, length-append key part, part_length, l.at))
       ∙ ap (λ (cs : List CellOf). key ++ cs) part_is
-
-  pub row_within : k + n ≤ 15
-  row_within = omega (arith, l.cut, l.short)
-
-  pub row_fifteen : length (put_mid k (k + n - k) row part) ≡ 15
-  row_fifteen =
-      ap length whole
-      ∙ omega (arith, length-append key (part ++ drop (k + n) row), length-append part (drop (k + n) row), part_length, length-drop (k + n) row, row_length, l.cut, l.short, l.at)

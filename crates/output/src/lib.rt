@@ -1,6 +1,8 @@
 //! Rows on their way out: a key's cells, and behind them those of a state or of results.
 //! They wait in their order until a caller takes them, and are written to the caller's slices.
 
+#![tactic(auto)]
+
 mod output_row;
 mod rows;
 mod waiting;

@@ -28,7 +28,7 @@ fn put_key(row: &mut [Cell; 15], key: &Key) -> usize
 impl OutputRow {
     /// The key and the state of a group.
     pub fn of_state<A: GroupsAccumulator>(key: &Key, accumulator: &A, group: usize) -> OutputRow
-        ensures { row_cells result ≡ key_cells key.now ++ take 8 (aggregation.shows (slice_index_or (states accumulator.now) group aggregation.neutral)) }
+        ensures { row_cells result ≡ key_cells key.now ++ take 8 (A.aggregation.shows (slice_index_or (A.states accumulator.now) group A.aggregation.neutral)) }
     {
         let mut row: [Cell; 15] = [None; 15];
         let start = put_key(&mut row, key);
@@ -42,7 +42,7 @@ impl OutputRow {
 
     /// The key and the results of a group.
     pub fn of_results<A: GroupsAccumulator>(key: &Key, accumulator: &A, group: usize) -> OutputRow
-        ensures { row_cells result ≡ key_cells key.now ++ take 8 (aggregation.results (slice_index_or (states accumulator.now) group aggregation.neutral)) }
+        ensures { row_cells result ≡ key_cells key.now ++ take 8 (A.aggregation.results (slice_index_or (A.states accumulator.now) group A.aggregation.neutral)) }
     {
         let mut row: [Cell; 15] = [None; 15];
         let start = put_key(&mut row, key);
@@ -62,7 +62,7 @@ impl OutputRow {
         exprs: &[AggregateExpr],
         number: usize,
     ) -> OutputRow
-        ensures { row_cells result ≡ key_cells key.now ++ take 8 (aggregation.shows (aggregation.own exprs.now (slice_index_or (view_rows batch.now) number []))) }
+        ensures { row_cells result ≡ key_cells key.now ++ take 8 (A.aggregation.shows (A.aggregation.own exprs.now (slice_index_or (view_rows batch.now) number []))) }
     {
         let mut row: [Cell; 15] = [None; 15];
         let start = put_key(&mut row, key);

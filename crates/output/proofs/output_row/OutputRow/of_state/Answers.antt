@@ -1,19 +1,12 @@
+-- The part behind the key was lent to the accumulator, which wrote the state there.
 use Rattle.std.proofs.Common.{get_or}
-use Rattle.output.proofs.Making.{lent, row_made, row_within, row_fifteen}
+use Rattle.output.proofs.Making.{lent, row_made}
 use Rattle.output.proofs.output_row.OutputRow.of_state.Goals as goal
-
-pub invariant-of-result : goal.invariant-of-result
-invariant-of-result g c =
-    let a = g.A.GroupsAccumulator.aggregation in
-    let key = c.args.key.now in
-    let s = get_or (g.A.GroupsAccumulator.states c.args.accumulator.now) c.args.group a.neutral in
-    let l = lent key (a.shows s) _ _ _ c.put-key-start.result c.min.result c.state-cells.result c.put-key-start.ensures.len c.put-key-start.ensures.cells (g.met.A.GroupsAccumulator.lawful.shows_length s) c.state-cells.ensures c.min.ensures c.state.ensures in
-    (row_within _ _ _ _ _ _ l, (row_fifteen _ _ _ _ _ _ l, tt))
 
 pub returns : goal.returns
 returns g c =
     let a = g.A.GroupsAccumulator.aggregation in
     let key = c.args.key.now in
     let s = get_or (g.A.GroupsAccumulator.states c.args.accumulator.now) c.args.group a.neutral in
-    let l = lent key (a.shows s) _ _ _ c.put-key-start.result c.min.result c.state-cells.result c.put-key-start.ensures.len c.put-key-start.ensures.cells (g.met.A.GroupsAccumulator.lawful.shows_length s) c.state-cells.ensures c.min.ensures c.state.ensures in
+    let l = lent key (a.shows s) _ _ _ c.put_key-start.result c.min.result c.state_cells.result c.put_key-start.ensures.len c.put_key-start.ensures.cells (g.met.A.GroupsAccumulator.lawful.shows_length s) c.state_cells.ensures c.min.ensures c.state.ensures in
     row_made _ _ _ _ _ _ l
