@@ -1,5 +1,5 @@
 -- What the steps of a batch leave is what the batch is defined to leave.
-use Rattle.std.proofs.Common.{◌≡◌, ℕ, suc, ◌+◌, ◌-◌, ◌<◌, ◌≤◌, min, Bool, true, false, cond, ltb, List, [], ◌∷◌, ◌++◌, map, length, get_or, take, sym, refl, ap, ◌∙◌, arith}
+use Rattle.std.proofs.Common.{◌≡◌, ℕ, suc, ◌+◌, ◌-◌, ◌<◌, ◌≤◌, min, Bool, cond, List, [], ◌∷◌, map, length, get_or, take, sym, refl, ap, ◌∙◌, arith}
 use Rattle.std.proofs.lemmas.List.{get_or-take, length-map, length-take}
 use Rattle.std.proofs.lemmas.Bool.{lt-ltb, le-ltb}
 use Rattle.cells.specs.Rows.{CellOf}
@@ -9,7 +9,7 @@ use Rattle.accumulators.specs.Groups.{grown, fed, fed_from, updated}
 use Rattle.group_values.specs.Tables.{interned}
 use Rattle.order.specs.Orders.{Order, opened}
 use Rattle.model.specs.Setups.{Setup, row_key}
-use Rattle.model.specs.Machine.{Groups, groups, interned_all, placed_all, reordered, absorbed_keys, absorbed_set, absorbed_from}
+use Rattle.model.specs.Machine.{Groups, groups, interned_all, placed_all, reordered, absorbed_set, absorbed_from}
 
 pub groups_same : {S : Type 0} {k k' : List (List CellOf)} {s s' : List S} {o o' : Order} → k ≡ k' → s ≡ s' → o ≡ o' → groups k s o ≡ groups k' s' o'
 groups_same {S} {k} {k'} {s} {s'} {o} {o'} p q r =

@@ -1,12 +1,11 @@
 -- Groups and rows go to wait one after the other.
-use Rattle.std.proofs.Common.{◌≡◌, ℕ, zero, suc, ◌+◌, ◌<◌, ◌≤◌, min, Bool, true, false, cond, ltb, List, [], ◌∷◌, ◌++◌, map, length, get_or, take, sym, refl, ap, ◌∙◌, inl, inr, arith}
+use Rattle.std.proofs.Common.{◌≡◌, ℕ, zero, suc, ◌+◌, ◌<◌, ◌≤◌, min, Bool, true, cond, ltb, List, [], ◌∷◌, ◌++◌, length, get_or, take, sym, refl, ap, ◌∙◌, inl, inr, arith}
 use Rattle.std.proofs.lemmas.List.{take_more, take_all, take-map, length-map, get_or-map}
 use Rattle.std.proofs.lemmas.Bool.{lt-ltb, cases_lt}
 use Rattle.group_values.specs.Tables.{dropped}
 use Rattle.cells.specs.declared.emit_to.EmitTo.{EmitTo}
 use Rattle.cells.specs.declared.emit_to.EmitTo.TheVariants.{All, First}
 use Rattle.cells.specs.Rows.{CellOf}
-use Rattle.cells.specs.Emits.{emitted}
 use Rattle.model.specs.Setups.{Setup, out_row}
 use Rattle.model.specs.Machine.{Groups, beside, held_pairs, out_rows, emission}
 

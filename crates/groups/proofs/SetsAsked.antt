@@ -1,5 +1,5 @@
 -- The question on grouping sets, taken apart as the code asks it.
-use Rattle.std.proofs.Common.{◌≡◌, ℕ, zero, suc, ◌<◌, ◌≤◌, Bool, true, false, ◌&&◌, eqb, leb, List, [], ◌∷◌, length, get_or, replicate, sym, ap, ◌∙◌, arith}
+use Rattle.std.proofs.Common.{◌≡◌, ℕ, zero, suc, ◌<◌, ◌≤◌, Bool, true, false, ◌&&◌, eqb, List, [], ◌∷◌, length, get_or, replicate, sym, ap, ◌∙◌, arith}
 use Rattle.std.proofs.lemmas.Bool.{eqb-true, leb-true, eq-eqb, ne_eqb, and_parts, and_left, and_from, cond-true, cond-false}
 use Rattle.group_by.specs.Sets.{same_marks}
 use Rattle.model.specs.Questions.{every, between, masks_ok, sets_ok}

@@ -1,5 +1,5 @@
 -- The keys of few columns are no longer than a key may be.
-use Rattle.std.proofs.Common.{◌+◌, ◌≤◌, Bool, true, false, cond, length, arith}
+use Rattle.std.proofs.Common.{◌≤◌, Bool, true, false, cond, length, arith}
 use Rattle.model.specs.Setups.{Settings, key_width}
 
 at_most_one : (b : Bool) → cond b 1 0 ≤ 1

@@ -1,11 +1,11 @@
-use Rattle.std.proofs.Common.{◌≡◌, ◌<◌, Bool, List, [], length, get_or, vec_items, ◌∙◌, arith}
+use Rattle.std.proofs.Common.{◌≡◌, ◌<◌, [], length, get_or, vec_items, ◌∙◌, arith}
 use Rattle.std.proofs.lemmas.List.{length-map}
 use Rattle.group_by.specs.Groupings.{group_by}
 use Rattle.group_by.proofs.Ordinals.{marks_at}
 use Rattle.groups.specs.Settings.{given_setup}
 use Rattle.groups.proofs.Marks.{kept_more, admitted_more, refused-here, masks_all}
 use Rattle.groups.proofs.grouping.masks_ok.Goals as goal
-use Rattle.groups.proofs.grouping.masks_ok.Goals.{then-all_masked+else-not-admits, Else-all_masked}
+use Rattle.groups.proofs.grouping.masks_ok.Goals.{then-all_masked+else-not-admits, else-all_masked}
 
 pub masked_key-key-requires : goal.masked_key-key-requires
 masked_key-key-requires g c =
@@ -24,7 +24,7 @@ loop-set-preserved g c =
     elim c.if-all_masked.branch [
       | then-all_masked+else-not-admits w ↦
           admitted_more u sets s c.loop-set.invariant l c.deref.result.now c.all_masked.result is c.all_masked.ensures _ w.admits.result (w.masked_key-key.ensures c.requires.1) w.admits.ensures w.if-not-admits.false
-      | Else-all_masked w ↦
+      | else-all_masked w ↦
           kept_more u sets s c.loop-set.invariant l c.deref.result.now c.all_masked.result is c.all_masked.ensures w.if-all_masked.false
     ]
 

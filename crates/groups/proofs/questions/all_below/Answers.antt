@@ -1,4 +1,4 @@
-use Rattle.std.proofs.Common.{ltb, get_or}
+use Rattle.std.proofs.Common.{ltb}
 use Rattle.std.proofs.lemmas.Bool.{lt-ltb, le-ltb}
 use Rattle.groups.proofs.Asking.{asked_no, asked_more, asked_all}
 use Rattle.groups.proofs.questions.all_below.Goals as goal

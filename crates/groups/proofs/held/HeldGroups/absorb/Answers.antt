@@ -1,4 +1,4 @@
-use Rattle.std.proofs.Common.{◌≡◌, ℕ, take, sym, ap, ◌∙◌}
+use Rattle.std.proofs.Common.{ℕ, take, sym, ap, ◌∙◌}
 use Rattle.cells.specs.Views.{view_rows}
 use Rattle.model.specs.Machine.{absorbed_from}
 use Rattle.groups.specs.Plans.{setup_of}

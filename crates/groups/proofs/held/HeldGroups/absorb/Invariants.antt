@@ -1,6 +1,6 @@
 use Rattle.std.proofs.Common.{◌≡◌, ◌-◌, take}
 use Rattle.cells.specs.Views.{view_rows}
-use Rattle.model.specs.Machine.{absorbed, absorbed_from}
+use Rattle.model.specs.Machine.{absorbed_from}
 use Rattle.groups.specs.Plans.{setup_of}
 use Rattle.groups.specs.Held.{held_of}
 use Rattle.groups.proofs.held.HeldGroups.absorb.Given as goal

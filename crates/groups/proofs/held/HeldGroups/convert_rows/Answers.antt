@@ -1,4 +1,4 @@
-use Rattle.std.proofs.Common.{◌≡◌, ℕ, ◌<◌, ◌≤◌, min, Bool, cond, List, [], ◌++◌, length, get_or, take, vec_items, sym, ap, ◌∙◌, arith}
+use Rattle.std.proofs.Common.{◌<◌, min, Bool, cond, List, [], ◌++◌, length, get_or, take, vec_items, sym, ap, ◌∙◌, arith}
 use Rattle.std.proofs.lemmas.List.{take_all}
 use Rattle.cells.specs.Rows.{CellOf}
 use Rattle.cells.specs.Keys.{key_cells}
@@ -8,7 +8,7 @@ use Rattle.model.specs.Setups.{row_key, out_row}
 use Rattle.model.specs.Machine.{converted}
 use Rattle.groups.specs.Plans.{settings_of, setup_of}
 use Rattle.groups.proofs.Interning.{key_at, keys_length}
-use Rattle.groups.proofs.Emitting.{Put, put_more}
+use Rattle.groups.proofs.Emitting.{put_more}
 use Rattle.groups.proofs.held.HeldGroups.convert_rows.Goals as goal
 
 pub loop-row-init : goal.loop-row-init

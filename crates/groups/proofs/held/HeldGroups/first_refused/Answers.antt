@@ -1,8 +1,7 @@
-use Rattle.std.proofs.Common.{◌≡◌, ◌<◌, Bool, true, false, List, length, sym, ap, ◌∙◌, arith}
-use Rattle.cells.specs.Rows.{CellOf}
+use Rattle.std.proofs.Common.{sym, ap, ◌∙◌, arith}
 use Rattle.cells.specs.Views.{view_rows}
 use Rattle.groups.specs.Plans.{setup_of}
-use Rattle.groups.proofs.Scanning.{row_starts, set_passes, set_fails, row_ends, rows_end}
+use Rattle.groups.proofs.Scanning.{row_starts, set_passes, set_fails, rows_end}
 use Rattle.groups.proofs.held.HeldGroups.first_refused.Goals as goal
 
 pub loop-set-init : goal.loop-set-init

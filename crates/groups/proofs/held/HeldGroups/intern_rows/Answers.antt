@@ -1,11 +1,10 @@
-use Rattle.std.proofs.Common.{◌≡◌, ℕ, ◌+◌, ◌<◌, ◌≤◌, min, List, [], map, length, take, vec_items, vec_len, sym, refl, ap, ◌∙◌, subst, arith}
-use Rattle.cells.specs.Rows.{CellOf}
+use Rattle.std.proofs.Common.{◌≡◌, ℕ, ◌+◌, ◌<◌, ◌≤◌, min, map, length, take, ap, ◌∙◌, arith}
 use Rattle.cells.specs.Views.{view_rows}
 use Rattle.std.proofs.lemmas.List.{take_all}
 use Rattle.model.specs.Setups.{row_key}
 use Rattle.model.specs.Machine.{interned_all, placed_all}
 use Rattle.groups.specs.Plans.{settings_of}
-use Rattle.groups.proofs.Interning.{Interned, interned-more, interned-all, key_at, keys_length}
+use Rattle.groups.proofs.Interning.{interned-more, interned-all, key_at, keys_length}
 use Rattle.groups.proofs.held.HeldGroups.intern_rows.Goals as goal
 
 pub loop-row-preserved : goal.loop-row-preserved
@@ -34,7 +33,7 @@ returns g c =
     record {
       table = all.keys ∙ ap (interned_all g.G.GroupValues.admitted (g.G.GroupValues.keys c.args.self.now.group_values)) whole;
       keys = all.keeps ∙ whole;
-      places = all.places-are ∙ ap (placed_all g.G.GroupValues.admitted (g.G.GroupValues.keys c.args.self.now.group_values)) whole;
+      places = all.places_are ∙ ap (placed_all g.G.GroupValues.admitted (g.G.GroupValues.keys c.args.self.now.group_values)) whole;
       accumulator = c.loop-row.invariant.3;
       ordering = c.loop-row.invariant.4;
     }

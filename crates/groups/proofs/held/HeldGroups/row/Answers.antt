@@ -1,7 +1,6 @@
-use Rattle.std.proofs.Common.{◌≡◌, ◌≤◌, Bool, cond, List, [], ◌++◌, length, get_or, take, sym, ap, ◌∙◌, arith}
+use Rattle.std.proofs.Common.{cond, List, [], ◌++◌, get_or, take, sym, ap, ◌∙◌, arith}
 use Rattle.std.proofs.lemmas.List.{take_all}
 use Rattle.cells.specs.Rows.{CellOf}
-use Rattle.cells.specs.Keys.{key_cells}
 use Rattle.groups.specs.declared.plan.AggregateMode.{AggregateMode}
 use Rattle.groups.specs.Plans.{is_partial}
 use Rattle.groups.proofs.held.HeldGroups.row.Goals as goal

@@ -1,9 +1,9 @@
-use Rattle.std.proofs.Common.{◌≡◌, ℕ, ◌<◌, ◌≤◌, [], length, take, sym, ap, ◌∙◌, arith}
+use Rattle.std.proofs.Common.{◌≡◌, ◌<◌, [], length, ◌∙◌, arith}
 use Rattle.output.specs.Waits.{waiting_rows}
 use Rattle.model.specs.Machine.{held_pairs, out_rows}
 use Rattle.groups.specs.Plans.{setup_of}
 use Rattle.groups.specs.Held.{held_of}
-use Rattle.groups.proofs.Emitting.{Put, put_more, all_length, row_at, emission-is, below_held}
+use Rattle.groups.proofs.Emitting.{put_more, all_length, row_at, emission-is, below_held}
 use Rattle.groups.proofs.held.HeldGroups.write_rows.Goals as goal
 
 pub loop-group-init : goal.loop-group-init

@@ -15,10 +15,11 @@ pub invariant_of-result : goal.invariant_of-result
 invariant_of-result g c =
     let u = given_setup g.A.GroupsAccumulator.aggregation g.G.GroupValues.admitted c.args.settings in
     let none : settings_fault u c.args.parts_are_new ≡ None = no_refusal _ c.in_default.ensures in
-    let same = sym c.in-Ok.ensures.1 in (
-      subst (λ (b : PhysicalGroupBy). length (group_by b).columns ≤ 6) same (few_keys u c.args.parts_are_new none),
-      (subst (λ (b : PhysicalGroupBy). length (group_by b).sets ≤ 8) same (few_sets u c.args.parts_are_new none), (some_rows u c.args.parts_are_new none, tt)),
-    )
+    let same = sym c.in-Ok.ensures.1 in record {
+      few_keys = subst (λ (b : PhysicalGroupBy). length (group_by b).columns ≤ 6) same (few_keys u c.args.parts_are_new none);
+      few_sets = subst (λ (b : PhysicalGroupBy). length (group_by b).sets ≤ 8) same (few_sets u c.args.parts_are_new none);
+      some_rows = some_rows u c.args.parts_are_new none;
+    }
 
 pub returns-in-Ok : goal.returns-in-Ok
 returns-in-Ok g c = (
