@@ -56,12 +56,12 @@ module _ {S R : Type 0} (u : Setup S) (w : Reservation R) where
     pub requests_same : requests_of script' ≡ requests_of script
     pub law : Law u w (map event_of history) m r
 
-abbrev pub stream_of : {G A R S : Type 0} → Stage G A R S → GroupedHashAggregateStream G A R S
+abbrev pub stream_of : {G A R : Type 0} → Stage G A R → GroupedHashAggregateStream G A R
 stream_of (Reading s) = s
 stream_of (Closing s) = s.stream
 
 -- the stream reads on exactly where finish was not called
-abbrev pub Staged : {G A R S X : Type 0} → Stage G A R S → Option X → Type 0
+abbrev pub Staged : {G A R X : Type 0} → Stage G A R → Option X → Type 0
 Staged (Reading s) None = Unit {0}
 Staged (Reading s) (Some x) = ⊥
 Staged (Closing s) None = ⊥
@@ -70,7 +70,7 @@ Staged (Closing s) (Some x) = Unit {0}
 -- a run of the whole script on a stream of what was passed, where every question is answered yes; else what was passed comes
 -- back, with the first question that is not, or where there is no memory, and the script is as it was
 abbrev pub Runs : {G A R S : Type 0} → Aggregation S → (List CellOf → Bool) → (G → List (List CellOf)) → (A → List S) → Reservation R
-    → Settings → G → A → R → Script → Result (Run G A R S) (StreamRefused G A R S) → Script → Type 0
+    → Settings → G → A → R → Script → Result (Run G A R) (StreamRefused G A R) → Script → Type 0
 Runs a admitted keys states w settings table accumulator reservation script (Ok run) script' =
     let s = stream_of run.stage in
     (settings_fault (given_setup a admitted settings) (are_new keys states w table accumulator reservation) ≡ None)

@@ -21,8 +21,8 @@ use stream::{ClosingStream, GroupedHashAggregateStream, StreamRefused, TakeFault
 /// An answer, with what the reservation holds then.
 fn reply<R: MemoryReservation>(answer: Answer, reservation: &R) -> Reply
     ensures answer { result.answer ≡ answer }
-    ensures bytes { result.bytes ≡ bytes reservation.now }
-    ensures granted { result.granted ≡ granted reservation.now }
+    ensures bytes { result.bytes ≡ R.bytes reservation.now }
+    ensures granted { result.granted ≡ R.granted reservation.now }
 {
     Reply {
         answer,
@@ -46,7 +46,7 @@ fn take_into<G: GroupValues, A: GroupsAccumulator, R: MemoryReservation>(
     stream: &mut GroupedHashAggregateStream<G, A, R>,
     out: &mut Buffers,
 ) -> Reply
-    ensures called { Narrow aggregation → Called (setup_in aggregation admitted stream.old) (meaning bytes granted asks) (model_of keys states stream.old) stream.old.reservation (take_of out.old) (slices out.old) (slices out.new) result (model_of keys states stream.new) stream.new.reservation }
+    ensures called { Narrow A.aggregation → Called (setup_in A.aggregation G.admitted stream.old) (meaning R.bytes R.granted R.asks) (model_of G.keys A.states stream.old) stream.old.reservation (take_of out.old) (slices out.old) (slices out.new) result (model_of G.keys A.states stream.new) stream.new.reservation }
     ensures plan { stream.new.plan ≡ stream.old.plan }
     ensures request { take_of out.new ≡ take_of out.old }
 {
@@ -59,7 +59,7 @@ fn offer_from<G: GroupValues, A: GroupsAccumulator, R: MemoryReservation>(
     stream: &mut GroupedHashAggregateStream<G, A, R>,
     batch: &Buffers,
 ) -> Reply
-    ensures called { Narrow aggregation → Called (setup_in aggregation admitted stream.old) (meaning bytes granted asks) (model_of keys states stream.old) stream.old.reservation (offer batch.now.values.items batch.now.flags.items) (slices batch.now) (slices batch.now) result (model_of keys states stream.new) stream.new.reservation }
+    ensures called { Narrow A.aggregation → Called (setup_in A.aggregation G.admitted stream.old) (meaning R.bytes R.granted R.asks) (model_of G.keys A.states stream.old) stream.old.reservation (offer batch.now.values.items batch.now.flags.items) (slices batch.now) (slices batch.now) result (model_of G.keys A.states stream.new) stream.new.reservation }
     ensures plan { stream.new.plan ≡ stream.old.plan }
 {
     let answer = match stream.offer(&batch.values, &batch.flags) {
@@ -74,7 +74,7 @@ fn make<G: GroupValues, A: GroupsAccumulator, R: MemoryReservation>(
     stream: &mut GroupedHashAggregateStream<G, A, R>,
     call: &mut Call,
 ) -> Reply
-    ensures called { Narrow aggregation → Called (setup_in aggregation admitted stream.old) (meaning bytes granted asks) (model_of keys states stream.old) stream.old.reservation (request_of call.old) (call_slices call.old) (call_slices call.new) result (model_of keys states stream.new) stream.new.reservation }
+    ensures called { Narrow A.aggregation → Called (setup_in A.aggregation G.admitted stream.old) (meaning R.bytes R.granted R.asks) (model_of G.keys A.states stream.old) stream.old.reservation (request_of call.old) (call_slices call.old) (call_slices call.new) result (model_of G.keys A.states stream.new) stream.new.reservation }
     ensures plan { stream.new.plan ≡ stream.old.plan }
     ensures request { request_of call.new ≡ request_of call.old }
 {
@@ -91,9 +91,9 @@ fn read<G: GroupValues, A: GroupsAccumulator, R: MemoryReservation>(
     replies: &mut Vec<Reply>,
 )
     requires { vec_len replies.old + length calls.old ≤ vec_capacity replies.old }
-    ensures walked { Narrow aggregation → (h : List Noted) → LeadsNoting (setup_in aggregation admitted stream.old) (meaning bytes granted asks) h (model_of keys states stream.old) stream.old.reservation → stream.old.closing ≡ false → Walked (setup_in aggregation admitted stream.old) (meaning bytes granted asks) h (map request_of calls.old) (map call_slices calls.old) (map call_slices calls.new) (map tells replies.old.items) (map tells replies.new.items) (model_of keys states stream.new) stream.new.reservation }
+    ensures walked { Narrow A.aggregation → (h : List Noted) → LeadsNoting (setup_in A.aggregation G.admitted stream.old) (meaning R.bytes R.granted R.asks) h (model_of G.keys A.states stream.old) stream.old.reservation → stream.old.closing ≡ false → Walked (setup_in A.aggregation G.admitted stream.old) (meaning R.bytes R.granted R.asks) h (map request_of calls.old) (map call_slices calls.old) (map call_slices calls.new) (map tells replies.old.items) (map tells replies.new.items) (model_of G.keys A.states stream.new) stream.new.reservation }
     ensures plan { stream.new.plan ≡ stream.old.plan }
-    ensures closing { Narrow aggregation → stream.new.closing ≡ stream.old.closing }
+    ensures closing { Narrow A.aggregation → stream.new.closing ≡ stream.old.closing }
     ensures requests { map request_of calls.new ≡ map request_of calls.old }
     ensures len { vec_len replies.new ≡ vec_len replies.old + length calls.old }
     ensures capacity { vec_capacity replies.new ≡ vec_capacity replies.old }
@@ -109,7 +109,7 @@ fn drain_into<G: GroupValues, A: GroupsAccumulator, R: MemoryReservation>(
     stream: &mut ClosingStream<G, A, R>,
     out: &mut Buffers,
 ) -> Reply
-    ensures called { Narrow aggregation → Called (setup_in aggregation admitted stream.old.stream) (meaning bytes granted asks) (model_of keys states stream.old.stream) stream.old.stream.reservation (take_of out.old) (slices out.old) (slices out.new) result (model_of keys states stream.new.stream) stream.new.stream.reservation }
+    ensures called { Narrow A.aggregation → Called (setup_in A.aggregation G.admitted stream.old.stream) (meaning R.bytes R.granted R.asks) (model_of G.keys A.states stream.old.stream) stream.old.stream.reservation (take_of out.old) (slices out.old) (slices out.new) result (model_of G.keys A.states stream.new.stream) stream.new.stream.reservation }
     ensures plan { stream.new.stream.plan ≡ stream.old.stream.plan }
     ensures request { take_of out.new ≡ take_of out.old }
 {
@@ -124,7 +124,7 @@ fn drain<G: GroupValues, A: GroupsAccumulator, R: MemoryReservation>(
     replies: &mut Vec<Reply>,
 )
     requires { vec_len replies.old + length takes.old ≤ vec_capacity replies.old }
-    ensures walked { Narrow aggregation → (h : List Noted) → LeadsNoting (setup_in aggregation admitted stream.old.stream) (meaning bytes granted asks) h (model_of keys states stream.old.stream) stream.old.stream.reservation → Walked (setup_in aggregation admitted stream.old.stream) (meaning bytes granted asks) h (map take_of takes.old) (map slices takes.old) (map slices takes.new) (map tells replies.old.items) (map tells replies.new.items) (model_of keys states stream.new.stream) stream.new.stream.reservation }
+    ensures walked { Narrow A.aggregation → (h : List Noted) → LeadsNoting (setup_in A.aggregation G.admitted stream.old.stream) (meaning R.bytes R.granted R.asks) h (model_of G.keys A.states stream.old.stream) stream.old.stream.reservation → Walked (setup_in A.aggregation G.admitted stream.old.stream) (meaning R.bytes R.granted R.asks) h (map take_of takes.old) (map slices takes.old) (map slices takes.new) (map tells replies.old.items) (map tells replies.new.items) (model_of G.keys A.states stream.new.stream) stream.new.stream.reservation }
     ensures plan { stream.new.stream.plan ≡ stream.old.stream.plan }
     ensures requests { map take_of takes.new ≡ map take_of takes.old }
 {
@@ -162,7 +162,7 @@ pub fn run<G: GroupValues, A: GroupsAccumulator, R: MemoryReservation>(
     reservation: R,
     script: &mut Script,
 ) -> Result<Run<G, A, R>, StreamRefused<G, A, R>>
-    ensures { Runs aggregation admitted keys states (meaning bytes granted asks) settings group_values accumulator reservation script.old result script.new }
+    ensures { Runs A.aggregation G.admitted G.keys A.states (meaning R.bytes R.granted R.asks) settings group_values accumulator reservation script.old result script.new }
 {
     let Ok(mut replies) = Vec::with_capacity(heap, script.len()) else {
         return Err(StreamRefused {

@@ -1,8 +1,5 @@
 //! The calls to make, and what came of them.
 
-use accumulators::GroupsAccumulator;
-use group_values::GroupValues;
-use memory::MemoryReservation;
 use stream::{ClosingStream, GroupedHashAggregateStream, OfferFault, TakeFault};
 
 /// The two slices of a call.
@@ -50,14 +47,14 @@ pub struct Reply {
 
 /// The stream that the calls led to.
 #[derive(Drop)]
-pub enum Stage<G: GroupValues, A: GroupsAccumulator, R: MemoryReservation> {
+pub enum Stage<G, A, R> {
     Reading(GroupedHashAggregateStream<G, A, R>),
     Closing(ClosingStream<G, A, R>),
 }
 
 /// What came of a script: the stream, and a reply for each call, finish included.
 #[derive(Drop)]
-pub struct Run<G: GroupValues, A: GroupsAccumulator, R: MemoryReservation> {
+pub struct Run<G, A, R> {
     pub stage: Stage<G, A, R>,
     pub replies: Vec<Reply>,
 }

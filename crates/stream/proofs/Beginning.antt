@@ -1,5 +1,5 @@
 -- A stream of new parts begins as is defined.
-use Rattle.std.proofs.Common.{◌≡◌, ℕ, Bool, true, false, ◌&&◌, eqb, List, [], ◌∷◌, length, None, Option, sym, refl, ap, ◌∙◌, subst, arith}
+use Rattle.std.proofs.Common.{◌≡◌, Bool, true, false, ◌&&◌, eqb, List, [], ◌∷◌, length, None, Option, sym, refl, ap, ◌∙◌, subst, arith}
 use Rattle.std.proofs.lemmas.Bool.{eqb-true, and_parts}
 use Rattle.cells.specs.Rows.{CellOf}
 use Rattle.group_by.specs.Sets.{IdsDiffer}
@@ -8,7 +8,7 @@ use Rattle.order.specs.Orders.{Order, start as unordered}
 use Rattle.order.specs.Skip.{Probe}
 use Rattle.model.specs.Setups.{Settings, Setup, first_probe}
 use Rattle.model.specs.Questions.{settings_fault}
-use Rattle.model.specs.Machine.{Groups, groups, Model, grouping, start}
+use Rattle.model.specs.Machine.{groups, Model, grouping, start}
 use Rattle.model.specs.Runs.{Reservation}
 use Rattle.model.specs.Law.{Sensible}
 use Rattle.stream.specs.Making.{are_new}

@@ -1,5 +1,5 @@
 -- The end step hands out what is held.
-use Rattle.std.proofs.Common.{◌≡◌, ℕ, ◌<◌, Bool, true, false, cond, List, [], ◌∷◌, length, sym, refl, ap, ◌∙◌, subst, arith}
+use Rattle.std.proofs.Common.{◌≡◌, ℕ, Bool, false, cond, List, [], ◌∷◌, length, sym, refl, ap, ◌∙◌, subst}
 use Rattle.cells.specs.declared.emit_to.EmitTo.TheVariants.{All}
 use Rattle.cells.specs.Rows.{CellOf}
 use Rattle.model.specs.Setups.{Setup, need}

@@ -1,3 +1,4 @@
+pub mod Alike
 pub mod Reserving
 pub mod Ending
 pub mod Settling

@@ -1,5 +1,5 @@
 -- The questions before an offer, and the run that a call goes on with.
-use Rattle.std.proofs.Common.{◌≡◌, ℕ, ◌+◌, ◌/◌, ◌^◌, ◌≤◌, Bool, true, false, cond, leb, List, [], ◌∷◌, length, ℤ, Some, None, Ok, Err, Option, Result, sym, refl, ap, ◌∙◌, subst, arith}
+use Rattle.std.proofs.Common.{◌≡◌, ℕ, ◌+◌, ◌/◌, ◌^◌, ◌≤◌, Bool, true, false, cond, leb, List, [], ◌∷◌, length, ℤ, Some, None, Ok, Err, Option, Result, sym, refl, ap, ◌∙◌, arith}
 use Rattle.std.proofs.lemmas.Bool.{leb-true, and_parts}
 use Rattle.cells.specs.Rows.{CellOf, cells_of}
 use Rattle.cells.specs.Refusals.{Refusal, refusal}
@@ -9,16 +9,16 @@ use Rattle.cells.proofs.Rows.{length-rows}
 use Rattle.memory.specs.Resizes.{Resized}
 use Rattle.model.specs.Setups.{Setup}
 use Rattle.model.specs.Machine.{Model}
-use Rattle.model.specs.Steps.{Request, Answer, refused, Outcome, outcome, or_else, reading_fault, total_fault, grouping_fault, offer_fault, accepted_in, offered_if, offered, step}
-use Rattle.model.specs.Runs.{Reservation, Event, event, May, Leads}
-use Rattle.model.specs.Law.{Sensible, LawfulAsks, Law}
+use Rattle.model.specs.Steps.{Request, Answer, outcome, or_else, reading_fault, total_fault, grouping_fault, offer_fault, accepted_in, offered_if, offered, step}
+use Rattle.model.specs.Runs.{Reservation, event, Leads}
+use Rattle.model.specs.Law.{LawfulAsks}
 use Rattle.model.proofs.Cases.{never}
 use Rattle.model.proofs.EveryRun.{law}
 use Rattle.stream.specs.declared.faults.OfferFault.{OfferFault}
 use Rattle.stream.specs.declared.faults.OfferFault.TheVariants.{Ended, RowsWait, Batch, TooManyRows, NotAdmitted, TooManyGroups, NoMemory}
-use Rattle.stream.specs.Refusals.{offer_refusal, offer_fault_of, offer_answer, UnlessNoMemory}
+use Rattle.stream.specs.Refusals.{offer_refusal, offer_answer, UnlessNoMemory}
 use Rattle.stream.specs.Streams.{meaning, Comes}
-use Rattle.stream.specs.Calls.{Extends, Makes}
+use Rattle.stream.specs.Calls.{Makes}
 use Rattle.stream.proofs.Settling.{comes_as}
 
 pub unless-kept : (res : Result (Unit {0}) OfferFault) {P : Type 0} → P → UnlessNoMemory res P

@@ -1,13 +1,13 @@
 -- Memory is asked for, and what follows is the step that is defined.
-use Rattle.std.proofs.Common.{◌≡◌, ℕ, ◌<◌, ◌≤◌, Bool, true, false, cond, ◌&&◌, ltb, List, [], ◌∷◌, ◌++◌, Some, None, Option, sym, refl, ap, ◌∙◌, subst}
+use Rattle.std.proofs.Common.{◌≡◌, ◌<◌, ◌≤◌, Bool, true, false, cond, ◌&&◌, ltb, [], ◌∷◌, Some, None, Option, sym, refl, ap, ◌∙◌, subst}
 use Rattle.std.proofs.lemmas.Bool.{lt-ltb, le-ltb}
 use Rattle.cells.specs.declared.emit_to.EmitTo.{EmitTo}
 use Rattle.cells.specs.Refusals.{refusal}
 use Rattle.order.specs.Orders.{oom_emit_to}
 use Rattle.model.specs.Setups.{Setup, need}
 use Rattle.model.specs.Machine.{Model, count, emits}
-use Rattle.model.specs.Steps.{Answer, Outcome, outcome, accepted, refused, wanted, no_memory, emits_if, emits_asking, reserved}
-use Rattle.model.specs.Runs.{Reservation, Asked}
+use Rattle.model.specs.Steps.{Answer, Outcome, outcome, accepted, refused, wanted, no_memory, emits_if, reserved}
+use Rattle.model.specs.Runs.{Reservation}
 use Rattle.stream.specs.Streams.{Comes}
 
 module _ {S R : Type 0} (u : Setup S) (w : Reservation R) (m : Model S) (r : R) where

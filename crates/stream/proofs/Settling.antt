@@ -10,7 +10,7 @@ use Rattle.order.specs.Skip.{told}
 use Rattle.model.specs.Setups.{Setup, need}
 use Rattle.model.specs.Machine.{Model, count, emits, says, with_probe}
 use Rattle.model.specs.Steps.{Answer, Outcome, outcome, accepted, limited, ended, emits_asking, reserved, probed, prefixed, settled}
-use Rattle.model.specs.Runs.{Reservation, Asked}
+use Rattle.model.specs.Runs.{Reservation}
 use Rattle.stream.specs.Streams.{Comes, Ends}
 
 -- the probe has been told

@@ -6,7 +6,7 @@ use Rattle.cells.specs.Rows.{CellOf}
 use Rattle.groups.specs.Held.{Narrow}
 use Rattle.model.specs.Setups.{Setup, out_width}
 use Rattle.model.specs.Machine.{Model, Phase, grouping, waiting, bypassing, stopped, with_phase, says}
-use Rattle.model.specs.Steps.{Answer, accepted, refused, handed, nothing, Outcome, outcome, unaltered, ended, emptied, piece, passed_on, taken_in, taken}
+use Rattle.model.specs.Steps.{Answer, refused, handed, nothing, Outcome, outcome, unaltered, ended, emptied, piece, passed_on, taken_in, taken}
 use Rattle.model.specs.Runs.{Reservation, Asked}
 use Rattle.model.proofs.Cases.{never}
 use Rattle.stream.specs.declared.state.ExecutionState.{ExecutionState}

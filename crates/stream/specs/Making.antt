@@ -21,7 +21,7 @@ are_new keys states w table accumulator reservation =
 
 -- a stream that was made has the settings passed and the reservation passed, and holds nothing
 pub record Begins {G A R S : Type 0} (a : Aggregation S) (admitted : List CellOf → Bool) (keys : G → List (List CellOf)) (states : A → List S) (w : Reservation R)
-    (settings : Settings) (reservation : R) (s : GroupedHashAggregateStream G A R S) : Type 0 where
+    (settings : Settings) (reservation : R) (s : GroupedHashAggregateStream G A R) : Type 0 where
   pub settled : settings_of s.plan ≡ given_settings settings
   pub model : model_of keys states s ≡ start (setup_in a admitted s)
   pub reservation_is : s.reservation ≡ reservation
@@ -31,7 +31,7 @@ pub record Begins {G A R S : Type 0} (a : Aggregation S) (admitted : List CellOf
   pub narrow : Narrow a
 
 -- what was passed is there as it was
-pub record Returned {G A R S : Type 0} (settings : Settings) (table : G) (accumulator : A) (reservation : R) (r : StreamRefused G A R S) : Type 0 where
+pub record Returned {G A R : Type 0} (settings : Settings) (table : G) (accumulator : A) (reservation : R) (r : StreamRefused G A R) : Type 0 where
   pub settings_same : r.settings ≡ settings
   pub table_same : r.group_values ≡ table
   pub accumulator_same : r.accumulator ≡ accumulator
@@ -39,7 +39,7 @@ pub record Returned {G A R S : Type 0} (settings : Settings) (table : G) (accumu
 
 -- a stream exactly where every question is answered yes and there is memory; else the first that is not
 abbrev pub Founded : {G A R S : Type 0} → Aggregation S → (List CellOf → Bool) → (G → List (List CellOf)) → (A → List S) → Reservation R
-    → Settings → G → A → R → Result (GroupedHashAggregateStream G A R S) (StreamRefused G A R S) → Type 0
+    → Settings → G → A → R → Result (GroupedHashAggregateStream G A R) (StreamRefused G A R) → Type 0
 Founded a admitted keys states w settings table accumulator reservation (Ok s) =
     (settings_fault (given_setup a admitted settings) (are_new keys states w table accumulator reservation) ≡ None)
     × Begins a admitted keys states w settings reservation s

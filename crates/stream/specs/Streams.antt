@@ -25,7 +25,7 @@ phase_of (ProducingOutput whole) rows = waiting rows whole
 phase_of SkippingAggregation rows = bypassing
 phase_of Done rows = stopped
 
-abbrev pub model_of : {G A R S : Type 0} → (G → List (List CellOf)) → (A → List S) → GroupedHashAggregateStream G A R S → Model S
+abbrev pub model_of : {G A R S : Type 0} → (G → List (List CellOf)) → (A → List S) → GroupedHashAggregateStream G A R → Model S
 model_of keys states s = record {
   held = held_of keys states s.held;
   probe = option_map probe s.skip_aggregation_probe;
@@ -35,7 +35,7 @@ model_of keys states s = record {
   rows = s.rows;
 }
 
-abbrev pub setup_in : {G A R S : Type 0} → Aggregation S → (List CellOf → Bool) → GroupedHashAggregateStream G A R S → Setup S
+abbrev pub setup_in : {G A R S : Type 0} → Aggregation S → (List CellOf → Bool) → GroupedHashAggregateStream G A R → Setup S
 setup_in a admitted s = setup_of a admitted s.plan
 
 abbrev pub meaning : {R : Type 0} → (R → ℕ) → (R → Bool) → (R → ℕ → Bool → R → Type 0) → Reservation R

@@ -29,7 +29,7 @@ impl<G: GroupValues, A: GroupsAccumulator, R: MemoryReservation> GroupedHashAggr
 > {
     /// Whether the stream still reads, and nothing waits.
     fn ask_reading(&self) -> Result<(), OfferFault>
-        ensures { offer_fault_of result ≡ reading_fault (setup_in aggregation admitted self.now) (model_of keys states self.now).phase self.now.input_done }
+        ensures { offer_fault_of result ≡ reading_fault (setup_in A.aggregation G.admitted self.now) (model_of G.keys A.states self.now).phase self.now.input_done }
     {
         if self.input_done {
             return Err(OfferFault::Ended);
@@ -44,7 +44,7 @@ impl<G: GroupValues, A: GroupsAccumulator, R: MemoryReservation> GroupedHashAggr
 
     /// Whether every key is admitted, and there is room for as many groups as the batch may open.
     fn ask_groups(&self, batch: &Batch<'_, '_>) -> Result<(), OfferFault>
-        ensures { offer_fault_of result ≡ grouping_fault (setup_in aggregation admitted self.now) (model_of keys states self.now).phase (model_of keys states self.now) (view_rows batch.now) }
+        ensures { offer_fault_of result ≡ grouping_fault (setup_in A.aggregation G.admitted self.now) (model_of G.keys A.states self.now).phase (model_of G.keys A.states self.now) (view_rows batch.now) }
     {
         let ExecutionState::ReadingInput = self.exec_state else {
             return Ok(());
@@ -61,7 +61,7 @@ impl<G: GroupValues, A: GroupsAccumulator, R: MemoryReservation> GroupedHashAggr
 
     /// Whether the rows can be counted.
     fn ask_rows(&self, batch: &Batch<'_, '_>) -> Result<(), OfferFault>
-        ensures { offer_fault_of result ≡ total_fault (setup_in aggregation admitted self.now) (model_of keys states self.now) (view_rows batch.now) }
+        ensures { offer_fault_of result ≡ total_fault (setup_in A.aggregation G.admitted self.now) (model_of G.keys A.states self.now) (view_rows batch.now) }
     {
         if self.rows.saturating_add(batch.num_rows() as u64) > MAX_ACCEPTED_ROWS {
             return Err(OfferFault::TooManyRows);
@@ -71,7 +71,7 @@ impl<G: GroupValues, A: GroupsAccumulator, R: MemoryReservation> GroupedHashAggr
 
     /// Takes a batch in. Cell `c` of row `r` stands at `r * columns + c` of both slices.
     pub fn offer(&mut self, values: &[i64], flags: &[u8]) -> Result<(), OfferFault>
-        ensures offers { Narrow aggregation → Offers (setup_in aggregation admitted self.old) (meaning bytes granted asks) (model_of keys states self.old) self.old.reservation values.now flags.now result (model_of keys states self.new) self.new.reservation }
+        ensures offers { Narrow A.aggregation → Offers (setup_in A.aggregation G.admitted self.old) (meaning R.bytes R.granted R.asks) (model_of G.keys A.states self.old) self.old.reservation values.now flags.now result (model_of G.keys A.states self.new) self.new.reservation }
         ensures unaltered { UnlessNoMemory result (self.new ≡ self.old) }
         ensures plan { self.new.plan ≡ self.old.plan }
     {
@@ -84,7 +84,7 @@ impl<G: GroupValues, A: GroupsAccumulator, R: MemoryReservation> GroupedHashAggr
 
     /// How many cells a row has as it is handed out.
     pub fn row_width(&self) -> usize
-        ensures { Narrow aggregation → result ≡ out_width (setup_in aggregation admitted self.now) }
+        ensures { Narrow A.aggregation → result ≡ out_width (setup_in A.aggregation G.admitted self.now) }
     {
         if self.plan.is_partial() {
             self.plan.key_width().saturating_add(A::state_cells())
@@ -95,7 +95,7 @@ impl<G: GroupValues, A: GroupsAccumulator, R: MemoryReservation> GroupedHashAggr
 
     /// Nothing waits any more: the end step of a closing stream that has not had it, or what comes next.
     fn output_taken(&mut self)
-        ensures ends { Narrow aggregation → Ends (meaning bytes granted asks) (emptied (setup_in aggregation admitted self.old) (model_of keys states self.old)) self.old.reservation (model_of keys states self.new) self.new.reservation }
+        ensures ends { Narrow A.aggregation → Ends (meaning R.bytes R.granted R.asks) (emptied (setup_in A.aggregation G.admitted self.old) (model_of G.keys A.states self.old)) self.old.reservation (model_of G.keys A.states self.new) self.new.reservation }
         ensures plan { self.new.plan ≡ self.old.plan }
     {
         if self.input_done {
@@ -111,7 +111,7 @@ impl<G: GroupValues, A: GroupsAccumulator, R: MemoryReservation> GroupedHashAggr
 
     /// Hands the next rows out to the front of the slices, and answers how many; none if nothing waits.
     pub fn take(&mut self, values: &mut [i64], flags: &mut [u8]) -> Result<Option<usize>, TakeFault>
-        ensures takes { Narrow aggregation → Takes (setup_in aggregation admitted self.old) (meaning bytes granted asks) (model_of keys states self.old) self.old.reservation values.old flags.old result (model_of keys states self.new) self.new.reservation values.new flags.new }
+        ensures takes { Narrow A.aggregation → Takes (setup_in A.aggregation G.admitted self.old) (meaning R.bytes R.granted R.asks) (model_of G.keys A.states self.old) self.old.reservation values.old flags.old result (model_of G.keys A.states self.new) self.new.reservation values.new flags.new }
         ensures unaltered { UnlessHanded result ((self.new ≡ self.old) × (values.new ≡ values.old) × (flags.new ≡ flags.old)) }
         ensures plan { self.new.plan ≡ self.old.plan }
     {
@@ -133,7 +133,7 @@ impl<G: GroupValues, A: GroupsAccumulator, R: MemoryReservation> GroupedHashAggr
 
     /// The input is finished; what is held goes out once nothing waits.
     pub fn finish(mut self) -> ClosingStream<G, A, R>
-        ensures finishes { Narrow aggregation → Finishes (setup_in aggregation admitted self) (meaning bytes granted asks) (model_of keys states self) self.reservation (model_of keys states result.stream) result.stream.reservation }
+        ensures finishes { Narrow A.aggregation → Finishes (setup_in A.aggregation G.admitted self) (meaning R.bytes R.granted R.asks) (model_of G.keys A.states self) self.reservation (model_of G.keys A.states result.stream) result.stream.reservation }
         ensures plan { result.stream.plan ≡ self.plan }
     {
         self.closing = true;

@@ -29,8 +29,8 @@ impl<G: GroupValues, A: GroupsAccumulator, R: MemoryReservation> GroupedHashAggr
 > {
     /// Asks for what the held groups need.
     fn update_memory_reservation(&mut self) -> bool
-        ensures asks { Narrow aggregation → asks self.old.reservation (need (setup_in aggregation admitted self.old) (count (model_of keys states self.old))) result self.new.reservation }
-        ensures model { model_of keys states self.new ≡ model_of keys states self.old }
+        ensures asks { Narrow A.aggregation → R.asks self.old.reservation (need (setup_in A.aggregation G.admitted self.old) (count (model_of G.keys A.states self.old))) result self.new.reservation }
+        ensures model { model_of G.keys A.states self.new ≡ model_of G.keys A.states self.old }
         ensures plan { self.new.plan ≡ self.old.plan }
     {
         self.reservation.try_resize(self.held.need(&self.plan))
@@ -39,8 +39,8 @@ impl<G: GroupValues, A: GroupsAccumulator, R: MemoryReservation> GroupedHashAggr
     /// Groups go to wait, and the others move down. The memory they leave is given back; should even that be refused,
     /// the next emission gives it back.
     fn emit(&mut self, emit_to: EmitTo)
-        ensures model { Narrow aggregation → model_of keys states self.new ≡ emits (setup_in aggregation admitted self.old) emit_to (model_of keys states self.old) }
-        ensures asks { Narrow aggregation → (g : Bool) × asks self.old.reservation (need (setup_in aggregation admitted self.old) (count (model_of keys states self.new))) g self.new.reservation }
+        ensures model { Narrow A.aggregation → model_of G.keys A.states self.new ≡ emits (setup_in A.aggregation G.admitted self.old) emit_to (model_of G.keys A.states self.old) }
+        ensures asks { Narrow A.aggregation → (g : Bool) × R.asks self.old.reservation (need (setup_in A.aggregation G.admitted self.old) (count (model_of G.keys A.states self.new))) g self.new.reservation }
         ensures plan { self.new.plan ≡ self.old.plan }
     {
         self.held.write_rows(&self.plan, emit_to, &mut self.waiting);
@@ -51,7 +51,7 @@ impl<G: GroupValues, A: GroupsAccumulator, R: MemoryReservation> GroupedHashAggr
 
     /// Asks for memory. Where it is refused, Partial mode with more than one group sends groups out early.
     fn try_update_memory_reservation(&mut self) -> Result<(), OfferFault>
-        ensures comes { Narrow aggregation → Comes (meaning bytes granted asks) (reserved (setup_in aggregation admitted self.old) (model_of keys states self.old)) self.old.reservation (model_of keys states self.new) self.new.reservation (offer_answer result) [] }
+        ensures comes { Narrow A.aggregation → Comes (meaning R.bytes R.granted R.asks) (reserved (setup_in A.aggregation G.admitted self.old) (model_of G.keys A.states self.old)) self.old.reservation (model_of G.keys A.states self.new) self.new.reservation (offer_answer result) [] }
         ensures refused { UnlessNoMemory result ⊥ }
         ensures plan { self.new.plan ≡ self.old.plan }
     {
@@ -70,7 +70,7 @@ impl<G: GroupValues, A: GroupsAccumulator, R: MemoryReservation> GroupedHashAggr
 
     /// The end step: all groups are finished, and go out.
     pub(crate) fn set_input_done_and_produce_output(&mut self)
-        ensures ends { Narrow aggregation → Ends (meaning bytes granted asks) (ended (setup_in aggregation admitted self.old) (model_of keys states self.old)) self.old.reservation (model_of keys states self.new) self.new.reservation }
+        ensures ends { Narrow A.aggregation → Ends (meaning R.bytes R.granted R.asks) (ended (setup_in A.aggregation G.admitted self.old) (model_of G.keys A.states self.old)) self.old.reservation (model_of G.keys A.states self.new) self.new.reservation }
         ensures plan { self.new.plan ≡ self.old.plan }
     {
         self.held.end(&self.plan);
@@ -84,7 +84,7 @@ impl<G: GroupValues, A: GroupsAccumulator, R: MemoryReservation> GroupedHashAggr
 
     /// The probe learns of more rows.
     fn update_skip_aggregation_probe(&mut self, input_rows: usize)
-        ensures model { model_of keys states self.new ≡ with_probe (model_of keys states self.old) (option_map (λ p. told p input_rows (count (model_of keys states self.old))) (model_of keys states self.old).probe) }
+        ensures model { model_of G.keys A.states self.new ≡ with_probe (model_of G.keys A.states self.old) (option_map (λ p. told p input_rows (count (model_of G.keys A.states self.old))) (model_of G.keys A.states self.old).probe) }
         ensures plan { self.new.plan ≡ self.old.plan }
         ensures reservation { self.new.reservation ≡ self.old.reservation }
     {
@@ -96,7 +96,7 @@ impl<G: GroupValues, A: GroupsAccumulator, R: MemoryReservation> GroupedHashAggr
 
     /// Whether the probe has said skip.
     pub(crate) fn should_skip_aggregation(&self) -> bool
-        ensures { result ≡ says (model_of keys states self.now).probe }
+        ensures { result ≡ says (model_of G.keys A.states self.now).probe }
     {
         match &self.skip_aggregation_probe {
             Some(probe) => probe.should_skip(),
@@ -106,7 +106,7 @@ impl<G: GroupValues, A: GroupsAccumulator, R: MemoryReservation> GroupedHashAggr
 
     /// The probe is told; where it says skip, all groups go out, and otherwise memory is asked for.
     fn probe_and_reserve(&mut self, input_rows: usize) -> Result<(), OfferFault>
-        ensures comes { Narrow aggregation → Comes (meaning bytes granted asks) (probed (setup_in aggregation admitted self.old) (model_of keys states self.old) input_rows) self.old.reservation (model_of keys states self.new) self.new.reservation (offer_answer result) [] }
+        ensures comes { Narrow A.aggregation → Comes (meaning R.bytes R.granted R.asks) (probed (setup_in A.aggregation G.admitted self.old) (model_of G.keys A.states self.old) input_rows) self.old.reservation (model_of G.keys A.states self.new) self.new.reservation (offer_answer result) [] }
         ensures refused { UnlessNoMemory result ⊥ }
         ensures plan { self.new.plan ≡ self.old.plan }
     {
@@ -120,7 +120,7 @@ impl<G: GroupValues, A: GroupsAccumulator, R: MemoryReservation> GroupedHashAggr
 
     /// What follows the grouping of a batch.
     fn settle(&mut self, input_rows: usize) -> Result<(), OfferFault>
-        ensures comes { Narrow aggregation → Comes (meaning bytes granted asks) (settled (setup_in aggregation admitted self.old) (model_of keys states self.old) input_rows) self.old.reservation (model_of keys states self.new) self.new.reservation (offer_answer result) [] }
+        ensures comes { Narrow A.aggregation → Comes (meaning R.bytes R.granted R.asks) (settled (setup_in A.aggregation G.admitted self.old) (model_of G.keys A.states self.old) input_rows) self.old.reservation (model_of G.keys A.states self.new) self.new.reservation (offer_answer result) [] }
         ensures refused { UnlessNoMemory result ⊥ }
         ensures plan { self.new.plan ≡ self.old.plan }
     {
@@ -142,7 +142,7 @@ impl<G: GroupValues, A: GroupsAccumulator, R: MemoryReservation> GroupedHashAggr
     /// The batch's rows are grouped.
     fn group_aggregate_batch(&mut self, batch: &Batch<'_, '_>) -> Result<(), OfferFault>
         requires { Countable self.old.rows batch.now }
-        ensures comes { Narrow aggregation → Comes (meaning bytes granted asks) (grouped (setup_in aggregation admitted self.old) (model_of keys states self.old) (view_rows batch.now)) self.old.reservation (model_of keys states self.new) self.new.reservation (offer_answer result) [] }
+        ensures comes { Narrow A.aggregation → Comes (meaning R.bytes R.granted R.asks) (grouped (setup_in A.aggregation G.admitted self.old) (model_of G.keys A.states self.old) (view_rows batch.now)) self.old.reservation (model_of G.keys A.states self.new) self.new.reservation (offer_answer result) [] }
         ensures refused { UnlessNoMemory result ⊥ }
         ensures plan { self.new.plan ≡ self.old.plan }
     {
@@ -155,7 +155,7 @@ impl<G: GroupValues, A: GroupsAccumulator, R: MemoryReservation> GroupedHashAggr
     fn transform_to_states(&mut self, batch: &Batch<'_, '_>)
         requires countable { Countable self.old.rows batch.now }
         requires partial { is_partial self.old.plan.mode ≡ true }
-        ensures comes { Narrow aggregation → Comes (meaning bytes granted asks) (λ _ _. bypassed (setup_in aggregation admitted self.old) (model_of keys states self.old) (view_rows batch.now)) self.old.reservation (model_of keys states self.new) self.new.reservation accepted [] }
+        ensures comes { Narrow A.aggregation → Comes (meaning R.bytes R.granted R.asks) (λ _ _. bypassed (setup_in A.aggregation G.admitted self.old) (model_of G.keys A.states self.old) (view_rows batch.now)) self.old.reservation (model_of G.keys A.states self.new) self.new.reservation accepted [] }
         ensures plan { self.new.plan ≡ self.old.plan }
     {
         self.held.convert_rows(&self.plan, batch, &mut self.waiting);
@@ -166,7 +166,7 @@ impl<G: GroupValues, A: GroupsAccumulator, R: MemoryReservation> GroupedHashAggr
     /// What the input brings, by what the stream is at.
     pub(crate) fn handle(&mut self, event: InputEvent<'_, '_>) -> Result<(), OfferFault>
         requires { CountableIn self.old.rows event }
-        ensures comes { Narrow aggregation → Comes (meaning bytes granted asks) (handled (setup_in aggregation admitted self.old) (model_of keys states self.old) event.entry) self.old.reservation (model_of keys states self.new) self.new.reservation (offer_answer result) [] }
+        ensures comes { Narrow A.aggregation → Comes (meaning R.bytes R.granted R.asks) (handled (setup_in A.aggregation G.admitted self.old) (model_of G.keys A.states self.old) event.entry) self.old.reservation (model_of G.keys A.states self.new) self.new.reservation (offer_answer result) [] }
         ensures unaltered { UnlessNoMemory result (self.new ≡ self.old) }
         ensures plan { self.new.plan ≡ self.old.plan }
     {

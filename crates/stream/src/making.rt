@@ -25,7 +25,7 @@ fn are_new<G: GroupValues, A: GroupsAccumulator, R: MemoryReservation>(
     accumulator: &A,
     reservation: &R,
 ) -> bool
-    ensures { result ≡ are_new keys states (meaning bytes granted asks) group_values.now accumulator.now reservation.now }
+    ensures { result ≡ are_new G.keys A.states (meaning R.bytes R.granted R.asks) group_values.now accumulator.now reservation.now }
 {
     group_values.is_empty()
         && accumulator.num_groups() == 0
@@ -47,7 +47,7 @@ impl<G: GroupValues, A: GroupsAccumulator, R: MemoryReservation> GroupedHashAggr
         accumulator: A,
         reservation: R,
     ) -> Result<GroupedHashAggregateStream<G, A, R>, StreamRefused<G, A, R>>
-        ensures { Founded aggregation admitted keys states (meaning bytes granted asks) settings group_values accumulator reservation result }
+        ensures { Founded A.aggregation G.admitted G.keys A.states (meaning R.bytes R.granted R.asks) settings group_values accumulator reservation result }
     {
         let parts_are_new = are_new(&group_values, &accumulator, &reservation);
         if let Some(fault) = first_fault::<G, A>(&settings, &group_values, parts_are_new) {
@@ -79,10 +79,10 @@ impl<G: GroupValues, A: GroupsAccumulator, R: MemoryReservation> GroupedHashAggr
         reservation: R,
         parts_are_new: bool,
     ) -> Result<GroupedHashAggregateStream<G, A, R>, StreamRefused<G, A, R>>
-        requires asked { settings_fault (given_setup aggregation admitted settings) parts_are_new ≡ None }
-        requires new { parts_are_new ≡ are_new keys states (meaning bytes granted asks) held.group_values held.accumulator reservation }
-        requires order { (held_of keys states held).order ≡ start (mode_of settings.order) }
-        ensures { Founded aggregation admitted keys states (meaning bytes granted asks) settings held.group_values held.accumulator reservation result }
+        requires asked { settings_fault (given_setup A.aggregation G.admitted settings) parts_are_new ≡ None }
+        requires new { parts_are_new ≡ are_new G.keys A.states (meaning R.bytes R.granted R.asks) held.group_values held.accumulator reservation }
+        requires order { (held_of G.keys A.states held).order ≡ start (mode_of settings.order) }
+        ensures { Founded A.aggregation G.admitted G.keys A.states (meaning R.bytes R.granted R.asks) settings held.group_values held.accumulator reservation result }
     {
         let Ok(waiting) = Waiting::new(heap) else {
             return Err(Self::back(settings, held, reservation, SettingsFault::Memory));

@@ -4,11 +4,8 @@ ghost use Rattle.std.specs.Prelude.{◌≡◌, true, is_some};
 ghost use Rattle.groups.specs.Plans.{is_partial};
 ghost use Rattle.stream.specs.Passing.{passes_on};
 
-use accumulators::GroupsAccumulator;
 use cells::Batch;
-use group_values::GroupValues;
 use groups::{HeldGroups, Plan, Settings, SettingsFault};
-use memory::MemoryReservation;
 use order::SkipAggregationProbe;
 use output::Waiting;
 
@@ -34,7 +31,7 @@ pub(crate) enum InputEvent<'v, 'f> {
 
 /// A grouped aggregation over any key table, accumulator and reservation.
 #[derive(Drop)]
-pub struct GroupedHashAggregateStream<G: GroupValues, A: GroupsAccumulator, R: MemoryReservation> {
+pub struct GroupedHashAggregateStream<G, A, R> {
     /// What does not change.
     pub(crate) plan: Plan,
     /// The groups that are held.
@@ -57,13 +54,13 @@ pub struct GroupedHashAggregateStream<G: GroupValues, A: GroupsAccumulator, R: M
 
 /// A stream whose input is finished: what it still holds is taken, and nothing is offered any more.
 #[derive(Drop)]
-pub struct ClosingStream<G: GroupValues, A: GroupsAccumulator, R: MemoryReservation> {
+pub struct ClosingStream<G, A, R> {
     pub(crate) stream: GroupedHashAggregateStream<G, A, R>,
 }
 
 /// What was passed for a stream that could not be made, as it was.
 #[derive(Drop)]
-pub struct StreamRefused<G: GroupValues, A: GroupsAccumulator, R: MemoryReservation> {
+pub struct StreamRefused<G, A, R> {
     pub settings: Settings,
     pub group_values: G,
     pub accumulator: A,

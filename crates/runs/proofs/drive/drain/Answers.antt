@@ -15,7 +15,7 @@ use Rattle.runs.proofs.drive.drain.Goals as goal
 pub loop-out-init : goal.loop-out-init
 loop-out-init g c =
     let w = meaning g.R.MemoryReservation.bytes g.R.MemoryReservation.granted g.R.MemoryReservation.asks in
-    let setup : Plan → Setup g.A.State.Denot = λ p. setup_of g.A.GroupsAccumulator.aggregation g.G.GroupValues.admitted p in
+    let setup : Plan → Setup g.row.A-State.Denot = λ p. setup_of g.A.GroupsAccumulator.aggregation g.G.GroupValues.admitted p in
     let s = c.args.stream.now.stream in (
       omega arith,
       refl,
@@ -34,7 +34,7 @@ push-reserved-requires g c =
 pub loop-out-preserved : goal.loop-out-preserved
 loop-out-preserved g c =
     let w = meaning g.R.MemoryReservation.bytes g.R.MemoryReservation.granted g.R.MemoryReservation.asks in
-    let setup : Plan → Setup g.A.State.Denot = λ p. setup_of g.A.GroupsAccumulator.aggregation g.G.GroupValues.admitted p in
+    let setup : Plan → Setup g.row.A-State.Denot = λ p. setup_of g.A.GroupsAccumulator.aggregation g.G.GroupValues.admitted p in
     let inv = c.loop-out.invariant in
     let first = c.args.stream.now.stream in
     let s = c.loop-out.stream.stream in
@@ -66,7 +66,7 @@ loop-out-preserved g c =
 pub returns : goal.returns
 returns g c =
     let w = meaning g.R.MemoryReservation.bytes g.R.MemoryReservation.granted g.R.MemoryReservation.asks in
-    let setup : Plan → Setup g.A.State.Denot = λ p. setup_of g.A.GroupsAccumulator.aggregation g.G.GroupValues.admitted p in
+    let setup : Plan → Setup g.row.A-State.Denot = λ p. setup_of g.A.GroupsAccumulator.aggregation g.G.GroupValues.admitted p in
     let inv = c.loop-out.invariant in
     let s = c.loop-out.stream.stream in
     let xs₀ = c.args.takes.now in

@@ -15,7 +15,7 @@ use Rattle.runs.proofs.drive.read.Goals as goal
 pub loop-call-init : goal.loop-call-init
 loop-call-init g c =
     let w = meaning g.R.MemoryReservation.bytes g.R.MemoryReservation.granted g.R.MemoryReservation.asks in
-    let setup : Plan → Setup g.A.State.Denot = λ p. setup_of g.A.GroupsAccumulator.aggregation g.G.GroupValues.admitted p in
+    let setup : Plan → Setup g.row.A-State.Denot = λ p. setup_of g.A.GroupsAccumulator.aggregation g.G.GroupValues.admitted p in
     let s = c.args.stream.now in (
       omega arith,
       refl,
@@ -35,7 +35,7 @@ push-reserved-requires g c =
 pub loop-call-preserved : goal.loop-call-preserved
 loop-call-preserved g c =
     let w = meaning g.R.MemoryReservation.bytes g.R.MemoryReservation.granted g.R.MemoryReservation.asks in
-    let setup : Plan → Setup g.A.State.Denot = λ p. setup_of g.A.GroupsAccumulator.aggregation g.G.GroupValues.admitted p in
+    let setup : Plan → Setup g.row.A-State.Denot = λ p. setup_of g.A.GroupsAccumulator.aggregation g.G.GroupValues.admitted p in
     let inv = c.loop-call.invariant in
     let first = c.args.stream.now in
     let s = c.loop-call.stream in
@@ -68,7 +68,7 @@ loop-call-preserved g c =
 pub returns : goal.returns
 returns g c =
     let w = meaning g.R.MemoryReservation.bytes g.R.MemoryReservation.granted g.R.MemoryReservation.asks in
-    let setup : Plan → Setup g.A.State.Denot = λ p. setup_of g.A.GroupsAccumulator.aggregation g.G.GroupValues.admitted p in
+    let setup : Plan → Setup g.row.A-State.Denot = λ p. setup_of g.A.GroupsAccumulator.aggregation g.G.GroupValues.admitted p in
     let inv = c.loop-call.invariant in
     let s = c.loop-call.stream in
     let xs₀ = c.args.calls.now in

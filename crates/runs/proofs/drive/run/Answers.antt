@@ -32,7 +32,7 @@ read-requires g c =
 pub returns-in-default-closing : goal.returns-in-default-closing
 returns-in-default-closing g c =
     let w = meaning g.R.MemoryReservation.bytes g.R.MemoryReservation.granted g.R.MemoryReservation.asks in
-    let setup : Plan → Setup g.A.State.Denot = λ p. setup_of g.A.GroupsAccumulator.aggregation g.G.GroupValues.admitted p in
+    let setup : Plan → Setup g.row.A-State.Denot = λ p. setup_of g.A.GroupsAccumulator.aggregation g.G.GroupValues.admitted p in
     let script = c.args.script.now in
     let begun = c.in-ok-stream.stream in
     let founded = c.in-ok-stream.ensures in
@@ -51,7 +51,7 @@ returns-in-default-closing g c =
     (subst (λ (zs : List Call). Walked (setup begun.plan) w [] (map request_of zs) (map call_slices zs) (map call_slices xs') (map tells (vec_items c.in-Ok.replies)) (map tells rs) m s.reservation) same_xs
     (c.read.ensures.walked begins.narrow []
     (new_leads (setup begun.plan) w model begun.reservation c.args.reservation begins.model begins.reservation-is begins.empty begins.granted)
-    (ap (λ (x : Model g.A.State.Denot). x.closing) begins.model))) in
+    (ap (λ (x : Model g.row.A-State.Denot). x.closing) begins.model))) in
     let kept : map request_of xs' ≡ map request_of xs = c.read.ensures.requests ∙ ap (map request_of) same_xs in
     let script' : Script = record { reading = with_items script.reading xs'; closing = script.closing } in
     let none : script.closing ≡ None = c.in-default-closing.is in
@@ -107,7 +107,7 @@ drain-requires g c =
 pub returns : goal.returns
 returns g c =
     let w = meaning g.R.MemoryReservation.bytes g.R.MemoryReservation.granted g.R.MemoryReservation.asks in
-    let setup : Plan → Setup g.A.State.Denot = λ p. setup_of g.A.GroupsAccumulator.aggregation g.G.GroupValues.admitted p in
+    let setup : Plan → Setup g.row.A-State.Denot = λ p. setup_of g.A.GroupsAccumulator.aggregation g.G.GroupValues.admitted p in
     let script = c.args.script.now in
     let begun = c.in-ok-stream.stream in
     let founded = c.in-ok-stream.ensures in
@@ -126,7 +126,7 @@ returns g c =
     (subst (λ (zs : List Call). Walked (setup begun.plan) w [] (map request_of zs) (map call_slices zs) (map call_slices xs') (map tells (vec_items c.in-Ok.replies)) (map tells rs) m s.reservation) same_xs
     (c.read.ensures.walked begins.narrow []
     (new_leads (setup begun.plan) w model begun.reservation c.args.reservation begins.model begins.reservation-is begins.empty begins.granted)
-    (ap (λ (x : Model g.A.State.Denot). x.closing) begins.model))) in
+    (ap (λ (x : Model g.row.A-State.Denot). x.closing) begins.model))) in
     let kept : map request_of xs' ≡ map request_of xs = c.read.ensures.requests ∙ ap (map request_of) same_xs in
     let takes = c.in-Some.takes in
     let some : script.closing ≡ Some takes = c.in-Some.is in
@@ -141,7 +141,7 @@ returns g c =
     let last = model_of g.G.GroupValues.keys g.A.GroupsAccumulator.states z in
     let plan : t.plan ≡ begun.plan = c.finish-closing.ensures.plan ∙ c.read.ensures.plan in
     let closes = subst (λ (p : Plan). Makes (setup p) w m s.reservation finish closed [] n t.reservation) c.read.ensures.plan (c.finish-closing.ensures.finishes begins.narrow) in
-    let reads : m.closing ≡ false = c.read.ensures.closing begins.narrow ∙ ap (λ (x : Model g.A.State.Denot). x.closing) begins.model in
+    let reads : m.closing ≡ false = c.read.ensures.closing begins.narrow ∙ ap (λ (x : Model g.row.A-State.Denot). x.closing) begins.model in
     let rs₂ = vec_items c.push-reserved.new.self in
     let reply = c.reply.result in
     let tells-so : tells reply ≡ (closed, w.bytes t.reservation, w.granted t.reservation) =

@@ -1,4 +1,4 @@
-use Rattle.std.proofs.Common.{◌≡◌, []}
+use Rattle.std.proofs.Common.{[]}
 use Rattle.groups.specs.Plans.{setup_of}
 use Rattle.model.specs.Steps.{finish as finishing, closed}
 use Rattle.stream.specs.Refusals.{offer_answer}

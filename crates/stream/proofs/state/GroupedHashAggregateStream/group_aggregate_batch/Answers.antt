@@ -1,4 +1,3 @@
-use Rattle.std.proofs.Common.{◌≡◌}
 use Rattle.cells.specs.Views.{view_rows}
 use Rattle.groups.specs.Plans.{setup_of}
 use Rattle.stream.specs.Refusals.{offer_answer}
@@ -13,7 +12,7 @@ returns g c =
     record {
       comes = λ narrow.
           grouped_comes (setup_of g.A.GroupsAccumulator.aggregation g.G.GroupValues.admitted s.plan) w (model_of g.G.GroupValues.keys g.A.GroupsAccumulator.states s) (view_rows c.args.batch.now) c.requires.few
-          c.num-rows.result c.num-rows.ensures c.num-rows-2.result c.num-rows-2.ensures _ c.absorb.ensures s.reservation _ _ (offer_answer c.settle.result) (c.settle.ensures.comes narrow);
+          c.num_rows.result c.num_rows.ensures c.num_rows-2.result c.num_rows-2.ensures _ c.absorb.ensures s.reservation _ _ (offer_answer c.settle.result) (c.settle.ensures.comes narrow);
       refused = c.settle.ensures.refused;
       plan = c.settle.ensures.plan;
     }

@@ -1,4 +1,4 @@
-use Rattle.std.proofs.Common.{◌≡◌, ap}
+use Rattle.std.proofs.Common.{ap}
 use Rattle.groups.specs.Plans.{setup_of}
 use Rattle.output.specs.Waits.{waiting_rows}
 use Rattle.model.specs.Machine.{grouping}
@@ -18,7 +18,7 @@ returns-in-ReadingInput-Batch g c =
       comes = λ narrow.
           handled-comes (setup_of g.A.GroupsAccumulator.aggregation g.G.GroupValues.admitted s.plan) w (model_of g.G.GroupValues.keys g.A.GroupsAccumulator.states s)
           c.args.event (Batch arm.batch) arm.is-1 grouping (ap (λ x. phase_of x (waiting_rows s.waiting)) arm.is-0)
-          s.reservation _ _ (offer_answer c.group-aggregate-batch.result) (c.group-aggregate-batch.ensures.comes narrow);
-      unaltered = unless-never c.group-aggregate-batch.result _ c.group-aggregate-batch.ensures.refused;
-      plan = c.group-aggregate-batch.ensures.plan;
+          s.reservation _ _ (offer_answer c.group_aggregate_batch.result) (c.group_aggregate_batch.ensures.comes narrow);
+      unaltered = unless-never c.group_aggregate_batch.result _ c.group_aggregate_batch.ensures.refused;
+      plan = c.group_aggregate_batch.ensures.plan;
     }

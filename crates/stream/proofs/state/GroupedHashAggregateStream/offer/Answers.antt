@@ -1,4 +1,4 @@
-use Rattle.std.proofs.Common.{◌≡◌, ℕ, [], length, Some, None, Result, sym, refl, ap, ◌∙◌, arith}
+use Rattle.std.proofs.Common.{◌≡◌, ℕ, [], length, Some, None, sym, refl, ap, ◌∙◌, arith}
 use Rattle.std.proofs.lemmas.Result.{err_from_is_err_and}
 use Rattle.cells.specs.Faults.{batch_fault}
 use Rattle.cells.specs.Views.{view_rows, rows_in}
@@ -10,18 +10,18 @@ use Rattle.stream.specs.Streams.{model_of, meaning}
 use Rattle.stream.proofs.Offering.{unless-kept, lawful_asks, makes, fault_reading, fault_batch, fault_total, fault_groups, refused-comes, accepted-comes, few_rows, countable}
 use Rattle.stream.proofs.state.GroupedHashAggregateStream.offer.Goals as goal
 
-pub returns-in-err-ask-reading : goal.returns-in-err-ask-reading
-returns-in-err-ask-reading g c =
+pub returns-in_err-ask_reading : goal.returns-in_err-ask_reading
+returns-in_err-ask_reading g c =
     let w = meaning g.R.MemoryReservation.bytes g.R.MemoryReservation.granted g.R.MemoryReservation.asks in
     let s = c.args.self.now in
     let u = setup_of g.A.GroupsAccumulator.aggregation g.G.GroupValues.admitted s.plan in
     let m = model_of g.G.GroupValues.keys g.A.GroupsAccumulator.states s in
     let v = c.args.values.now in
     let f = c.args.flags.now in
-    let res = c.from-residual.result in
-    let e = err_from_is_err_and res c.from-residual.ensures.1 in
+    let res = c.from_residual.result in
+    let e = err_from_is_err_and res c.from_residual.ensures.1 in
     let comes = refused-comes u w m v f res e.0 e.1
-    (fault_reading u w m v f (offer_fault_of c.ask-reading.result) c.ask-reading.ensures (offer_refusal e.0) (ap offer_fault_of c.in-err-ask-reading.was ∙ ap (λ (x : OfferFault). Some (offer_refusal x)) (sym e.2)))
+    (fault_reading u w m v f (offer_fault_of c.ask_reading.result) c.ask_reading.ensures (offer_refusal e.0) (ap offer_fault_of c.in_err-ask_reading.was ∙ ap (λ (x : OfferFault). Some (offer_refusal x)) (sym e.2)))
     s.reservation in
     record {
       offers = λ _. makes u w (lawful_asks _ _ _ g.met.R.MemoryReservation.lawful) m s.reservation (offering v f) (offer_answer res) [] m s.reservation comes;
@@ -29,19 +29,19 @@ returns-in-err-ask-reading g c =
       plan = refl;
     }
 
-pub returns-in-err-batch : goal.returns-in-err-batch
-returns-in-err-batch g c =
+pub returns-in_err-batch : goal.returns-in_err-batch
+returns-in_err-batch g c =
     let w = meaning g.R.MemoryReservation.bytes g.R.MemoryReservation.granted g.R.MemoryReservation.asks in
     let s = c.args.self.now in
     let u = setup_of g.A.GroupsAccumulator.aggregation g.G.GroupValues.admitted s.plan in
     let m = model_of g.G.GroupValues.keys g.A.GroupsAccumulator.states s in
     let v = c.args.values.now in
     let f = c.args.flags.now in
-    let res = c.from-residual-in-err-batch.result in
-    let e = err_from_is_err_and res c.from-residual-in-err-batch.ensures.1 in
+    let res = c.from_residual-in_err-batch.result in
+    let e = err_from_is_err_and res c.from_residual-in_err-batch.ensures.1 in
     let comes = refused-comes u w m v f res e.0 e.1
-    (fault_batch u w m v f (offer_fault_of c.ask-reading.result) c.ask-reading.ensures (ap offer_fault_of c.in-ok-ask-reading.was) (offer_refusal e.0)
-    (ap (λ (C : ℕ). batch_fault C v f) (sym c.columns.ensures) ∙ c.in-err-batch.ensures ∙ ap (λ (x : OfferFault). Some (offer_refusal x)) (sym e.2)))
+    (fault_batch u w m v f (offer_fault_of c.ask_reading.result) c.ask_reading.ensures (ap offer_fault_of c.in_ok-ask_reading.was) (offer_refusal e.0)
+    (ap (λ (C : ℕ). batch_fault C v f) (sym c.columns.ensures) ∙ c.in_err-batch.ensures ∙ ap (λ (x : OfferFault). Some (offer_refusal x)) (sym e.2)))
     s.reservation in
     record {
       offers = λ _. makes u w (lawful_asks _ _ _ g.met.R.MemoryReservation.lawful) m s.reservation (offering v f) (offer_answer res) [] m s.reservation comes;
@@ -49,22 +49,22 @@ returns-in-err-batch g c =
       plan = refl;
     }
 
-pub returns-in-err-ask-rows : goal.returns-in-err-ask-rows
-returns-in-err-ask-rows g c =
+pub returns-in_err-ask_rows : goal.returns-in_err-ask_rows
+returns-in_err-ask_rows g c =
     let w = meaning g.R.MemoryReservation.bytes g.R.MemoryReservation.granted g.R.MemoryReservation.asks in
     let s = c.args.self.now in
     let u = setup_of g.A.GroupsAccumulator.aggregation g.G.GroupValues.admitted s.plan in
     let m = model_of g.G.GroupValues.keys g.A.GroupsAccumulator.states s in
     let v = c.args.values.now in
     let f = c.args.flags.now in
-    let seen = view_rows c.in-ok-batch.batch in
-    let whole : batch_fault u.settings.columns v f ≡ None = ap (λ (C : ℕ). batch_fault C v f) (sym c.columns.ensures) ∙ c.in-ok-batch.ensures.0 in
-    let view : seen ≡ rows_in u.settings.columns v f = c.in-ok-batch.ensures.1 ∙ ap (λ (C : ℕ). rows_in C v f) c.columns.ensures in
-    let res = c.from-residual-in-err-ask-rows.result in
-    let e = err_from_is_err_and res c.from-residual-in-err-ask-rows.ensures.1 in
+    let seen = view_rows c.in_ok-batch.batch in
+    let whole : batch_fault u.settings.columns v f ≡ None = ap (λ (C : ℕ). batch_fault C v f) (sym c.columns.ensures) ∙ c.in_ok-batch.ensures.0 in
+    let view : seen ≡ rows_in u.settings.columns v f = c.in_ok-batch.ensures.1 ∙ ap (λ (C : ℕ). rows_in C v f) c.columns.ensures in
+    let res = c.from_residual-in_err-ask_rows.result in
+    let e = err_from_is_err_and res c.from_residual-in_err-ask_rows.ensures.1 in
     let comes = refused-comes u w m v f res e.0 e.1
-    (fault_total u w m v f (offer_fault_of c.ask-reading.result) c.ask-reading.ensures (ap offer_fault_of c.in-ok-ask-reading.was) whole seen view (offer_fault_of c.ask-rows.result) c.ask-rows.ensures (offer_refusal e.0)
-    (ap offer_fault_of c.in-err-ask-rows.was ∙ ap (λ (x : OfferFault). Some (offer_refusal x)) (sym e.2)))
+    (fault_total u w m v f (offer_fault_of c.ask_reading.result) c.ask_reading.ensures (ap offer_fault_of c.in_ok-ask_reading.was) whole seen view (offer_fault_of c.ask_rows.result) c.ask_rows.ensures (offer_refusal e.0)
+    (ap offer_fault_of c.in_err-ask_rows.was ∙ ap (λ (x : OfferFault). Some (offer_refusal x)) (sym e.2)))
     s.reservation in
     record {
       offers = λ _. makes u w (lawful_asks _ _ _ g.met.R.MemoryReservation.lawful) m s.reservation (offering v f) (offer_answer res) [] m s.reservation comes;
@@ -72,23 +72,23 @@ returns-in-err-ask-rows g c =
       plan = refl;
     }
 
-pub returns-in-err-ask-groups : goal.returns-in-err-ask-groups
-returns-in-err-ask-groups g c =
+pub returns-in_err-ask_groups : goal.returns-in_err-ask_groups
+returns-in_err-ask_groups g c =
     let w = meaning g.R.MemoryReservation.bytes g.R.MemoryReservation.granted g.R.MemoryReservation.asks in
     let s = c.args.self.now in
     let u = setup_of g.A.GroupsAccumulator.aggregation g.G.GroupValues.admitted s.plan in
     let m = model_of g.G.GroupValues.keys g.A.GroupsAccumulator.states s in
     let v = c.args.values.now in
     let f = c.args.flags.now in
-    let seen = view_rows c.in-ok-batch.batch in
-    let whole : batch_fault u.settings.columns v f ≡ None = ap (λ (C : ℕ). batch_fault C v f) (sym c.columns.ensures) ∙ c.in-ok-batch.ensures.0 in
-    let view : seen ≡ rows_in u.settings.columns v f = c.in-ok-batch.ensures.1 ∙ ap (λ (C : ℕ). rows_in C v f) c.columns.ensures in
-    let res = c.from-residual-in-err-ask-groups.result in
-    let e = err_from_is_err_and res c.from-residual-in-err-ask-groups.ensures.1 in
+    let seen = view_rows c.in_ok-batch.batch in
+    let whole : batch_fault u.settings.columns v f ≡ None = ap (λ (C : ℕ). batch_fault C v f) (sym c.columns.ensures) ∙ c.in_ok-batch.ensures.0 in
+    let view : seen ≡ rows_in u.settings.columns v f = c.in_ok-batch.ensures.1 ∙ ap (λ (C : ℕ). rows_in C v f) c.columns.ensures in
+    let res = c.from_residual-in_err-ask_groups.result in
+    let e = err_from_is_err_and res c.from_residual-in_err-ask_groups.ensures.1 in
     let comes = refused-comes u w m v f res e.0 e.1
-    (fault_groups u w m v f (offer_fault_of c.ask-reading.result) c.ask-reading.ensures (ap offer_fault_of c.in-ok-ask-reading.was) whole seen view (offer_fault_of c.ask-rows.result) c.ask-rows.ensures
-    (ap offer_fault_of c.in-ok-ask-rows.was) (offer_fault_of c.ask-groups.result) c.ask-groups.ensures
-    ∙ ap offer_fault_of c.in-err-ask-groups.was ∙ ap (λ (x : OfferFault). Some (offer_refusal x)) (sym e.2))
+    (fault_groups u w m v f (offer_fault_of c.ask_reading.result) c.ask_reading.ensures (ap offer_fault_of c.in_ok-ask_reading.was) whole seen view (offer_fault_of c.ask_rows.result) c.ask_rows.ensures
+    (ap offer_fault_of c.in_ok-ask_rows.was) (offer_fault_of c.ask_groups.result) c.ask_groups.ensures
+    ∙ ap offer_fault_of c.in_err-ask_groups.was ∙ ap (λ (x : OfferFault). Some (offer_refusal x)) (sym e.2))
     s.reservation in
     record {
       offers = λ _. makes u w (lawful_asks _ _ _ g.met.R.MemoryReservation.lawful) m s.reservation (offering v f) (offer_answer res) [] m s.reservation comes;
@@ -104,12 +104,12 @@ handle-requires g c =
     let m = model_of g.G.GroupValues.keys g.A.GroupsAccumulator.states s in
     let v = c.args.values.now in
     let f = c.args.flags.now in
-    let seen = view_rows c.in-ok-batch.batch in
-    let whole : batch_fault u.settings.columns v f ≡ None = ap (λ (C : ℕ). batch_fault C v f) (sym c.columns.ensures) ∙ c.in-ok-batch.ensures.0 in
-    let view : seen ≡ rows_in u.settings.columns v f = c.in-ok-batch.ensures.1 ∙ ap (λ (C : ℕ). rows_in C v f) c.columns.ensures in
+    let seen = view_rows c.in_ok-batch.batch in
+    let whole : batch_fault u.settings.columns v f ≡ None = ap (λ (C : ℕ). batch_fault C v f) (sym c.columns.ensures) ∙ c.in_ok-batch.ensures.0 in
+    let view : seen ≡ rows_in u.settings.columns v f = c.in_ok-batch.ensures.1 ∙ ap (λ (C : ℕ). rows_in C v f) c.columns.ensures in
     record {
       few = omega (arith, ap length view, few_rows u.settings.columns v f whole);
-      total = countable u m seen (sym c.ask-rows.ensures ∙ ap offer_fault_of c.in-ok-ask-rows.was);
+      total = countable u m seen (sym c.ask_rows.ensures ∙ ap offer_fault_of c.in_ok-ask_rows.was);
     }
 
 pub returns : goal.returns
@@ -120,13 +120,13 @@ returns g c =
     let m = model_of g.G.GroupValues.keys g.A.GroupsAccumulator.states s in
     let v = c.args.values.now in
     let f = c.args.flags.now in
-    let seen = view_rows c.in-ok-batch.batch in
-    let whole : batch_fault u.settings.columns v f ≡ None = ap (λ (C : ℕ). batch_fault C v f) (sym c.columns.ensures) ∙ c.in-ok-batch.ensures.0 in
-    let view : seen ≡ rows_in u.settings.columns v f = c.in-ok-batch.ensures.1 ∙ ap (λ (C : ℕ). rows_in C v f) c.columns.ensures in
+    let seen = view_rows c.in_ok-batch.batch in
+    let whole : batch_fault u.settings.columns v f ≡ None = ap (λ (C : ℕ). batch_fault C v f) (sym c.columns.ensures) ∙ c.in_ok-batch.ensures.0 in
+    let view : seen ≡ rows_in u.settings.columns v f = c.in_ok-batch.ensures.1 ∙ ap (λ (C : ℕ). rows_in C v f) c.columns.ensures in
     let res = c.handle.result in
-    let clean = fault_groups u w m v f (offer_fault_of c.ask-reading.result) c.ask-reading.ensures (ap offer_fault_of c.in-ok-ask-reading.was) whole seen view (offer_fault_of c.ask-rows.result) c.ask-rows.ensures
-    (ap offer_fault_of c.in-ok-ask-rows.was) (offer_fault_of c.ask-groups.result) c.ask-groups.ensures
-    ∙ ap offer_fault_of c.in-ok-ask-groups.was in
+    let clean = fault_groups u w m v f (offer_fault_of c.ask_reading.result) c.ask_reading.ensures (ap offer_fault_of c.in_ok-ask_reading.was) whole seen view (offer_fault_of c.ask_rows.result) c.ask_rows.ensures
+    (ap offer_fault_of c.in_ok-ask_rows.was) (offer_fault_of c.ask_groups.result) c.ask_groups.ensures
+    ∙ ap offer_fault_of c.in_ok-ask_groups.was in
     let t = c.handle.new.self in
     let m' = model_of g.G.GroupValues.keys g.A.GroupsAccumulator.states t in
     record {

@@ -11,30 +11,30 @@ returns-then-self-2 g c =
     let u = setup_of g.A.GroupsAccumulator.aggregation g.G.GroupValues.admitted s.plan in
     let m = model_of g.G.GroupValues.keys g.A.GroupsAccumulator.states s in
     record {
-      ends = λ narrow. closing_ends u w m s.reservation c.if-self.false c.if-self-2.true _ _ (c.set-input-done-and-produce-output.ensures.ends narrow);
-      plan = c.set-input-done-and-produce-output.ensures.plan;
+      ends = λ narrow. closing_ends u w m s.reservation c.if-self.false c.if-self-2.true _ _ (c.set_input_done_and_produce_output.ensures.ends narrow);
+      plan = c.set_input_done_and_produce_output.ensures.plan;
     }
 
-pub returns-then-should-skip-aggregation : goal.returns-then-should-skip-aggregation
-returns-then-should-skip-aggregation g c =
+pub returns-then-should_skip_aggregation : goal.returns-then-should_skip_aggregation
+returns-then-should_skip_aggregation g c =
     let w = meaning g.R.MemoryReservation.bytes g.R.MemoryReservation.granted g.R.MemoryReservation.asks in
     let s = c.args.self.now in
     let u = setup_of g.A.GroupsAccumulator.aggregation g.G.GroupValues.admitted s.plan in
     let m = model_of g.G.GroupValues.keys g.A.GroupsAccumulator.states s in
     record {
       ends = λ _.
-          reading_ends u w m s.reservation c.if-self.false c.if-self-2.false c.should-skip-aggregation.result true c.should-skip-aggregation.ensures c.if-should-skip-aggregation.true;
+          reading_ends u w m s.reservation c.if-self.false c.if-self-2.false c.should_skip_aggregation.result true c.should_skip_aggregation.ensures c.if-should_skip_aggregation.true;
       plan = refl;
     }
 
-pub returns-else-should-skip-aggregation : goal.returns-else-should-skip-aggregation
-returns-else-should-skip-aggregation g c =
+pub returns-else-should_skip_aggregation : goal.returns-else-should_skip_aggregation
+returns-else-should_skip_aggregation g c =
     let w = meaning g.R.MemoryReservation.bytes g.R.MemoryReservation.granted g.R.MemoryReservation.asks in
     let s = c.args.self.now in
     let u = setup_of g.A.GroupsAccumulator.aggregation g.G.GroupValues.admitted s.plan in
     let m = model_of g.G.GroupValues.keys g.A.GroupsAccumulator.states s in
     record {
       ends = λ _.
-          reading_ends u w m s.reservation c.if-self.false c.if-self-2.false c.should-skip-aggregation.result false c.should-skip-aggregation.ensures c.if-should-skip-aggregation.false;
+          reading_ends u w m s.reservation c.if-self.false c.if-self-2.false c.should_skip_aggregation.result false c.should_skip_aggregation.ensures c.if-should_skip_aggregation.false;
       plan = refl;
     }

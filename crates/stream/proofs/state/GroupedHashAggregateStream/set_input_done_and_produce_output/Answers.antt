@@ -1,10 +1,7 @@
-use Rattle.std.proofs.Common.{◌≡◌, true, sym, ap, ◌∙◌}
-use Rattle.std.specs.Option.{option_map}
-use Rattle.order.specs.Skip.{probe}
-use Rattle.output.specs.Waits.{waiting_rows}
+use Rattle.std.proofs.Common.{true, ap, ◌∙◌}
 use Rattle.groups.specs.Plans.{setup_of}
 use Rattle.model.specs.Machine.{Groups, Model}
-use Rattle.stream.specs.Streams.{model_of, meaning, phase_of}
+use Rattle.stream.specs.Streams.{model_of, meaning}
 use Rattle.stream.proofs.Ending.{ended_emits}
 use Rattle.stream.proofs.state.GroupedHashAggregateStream.set_input_done_and_produce_output.Goals as goal
 
@@ -14,7 +11,7 @@ returns-else-len-eq0 g c =
     let s = c.args.self.now in
     let u = setup_of g.A.GroupsAccumulator.aggregation g.G.GroupValues.admitted s.plan in
     let m = model_of g.G.GroupValues.keys g.A.GroupsAccumulator.states s in
-    let with-held : Groups g.A.State.Denot → Model g.A.State.Denot = λ x. record { held = x; probe = m.probe; phase = m.phase; ended = true; closing = m.closing; rows = m.rows } in
+    let with-held : Groups g.row.A-State.Denot → Model g.row.A-State.Denot = λ x. record { held = x; probe = m.probe; phase = m.phase; ended = true; closing = m.closing; rows = m.rows } in
     record {
       ends = λ narrow.
           ended_emits u w m s.reservation (with-held _) _ _ (c.emit.ensures.asks narrow).0 (ap with-held c.end.ensures) (λ e. c.if-len-eq0.false (c.len.ensures ∙ e)) (c.emit.ensures.model narrow) (c.emit.ensures.asks narrow).1;

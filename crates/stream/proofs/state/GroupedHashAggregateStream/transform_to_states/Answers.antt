@@ -1,4 +1,4 @@
-use Rattle.std.proofs.Common.{◌≡◌, refl}
+use Rattle.std.proofs.Common.{refl}
 use Rattle.cells.specs.Views.{view_rows}
 use Rattle.groups.specs.Plans.{setup_of}
 use Rattle.stream.specs.Streams.{model_of, meaning}
@@ -12,6 +12,6 @@ returns g c =
     record {
       comes = λ narrow.
           bypassed-comes (setup_of g.A.GroupsAccumulator.aggregation g.G.GroupValues.admitted s.plan) w (model_of g.G.GroupValues.keys g.A.GroupsAccumulator.states s) (view_rows c.args.batch.now) c.requires.countable.few
-          c.num-rows.result c.num-rows.ensures _ (c.convert-rows.ensures narrow c.requires.partial) s.reservation;
+          c.num_rows.result c.num_rows.ensures _ (c.convert_rows.ensures narrow c.requires.partial) s.reservation;
       plan = refl;
     }
