@@ -26,8 +26,8 @@ loop-out-init g c =
           walked_none take_of slices (setup s.plan) w h c.args.takes.now (vec_items c.args.replies.now) (model_of g.G.GroupValues.keys g.A.GroupsAccumulator.states s) s.reservation led,
     )
 
-pub push-reserved-requires : goal.push-reserved-requires
-push-reserved-requires g c =
+pub push_reserved-requires : goal.push_reserved-requires
+push_reserved-requires g c =
     let inv = c.loop-out.invariant in
     omega (arith, inv.3, inv.4, c.requires, c.loop-out-test.true, c.loop-out.auto.takes)
 
@@ -38,7 +38,7 @@ loop-out-preserved g c =
     let inv = c.loop-out.invariant in
     let first = c.args.stream.now.stream in
     let s = c.loop-out.stream.stream in
-    let call = c.drain-into-made in
+    let call = c.drain_into-made in
     let t = call.new.stream.stream in
     let m = model_of g.G.GroupValues.keys g.A.GroupsAccumulator.states s in
     let xs₀ = c.args.takes.now in
@@ -54,13 +54,13 @@ loop-out-preserved g c =
       omega (arith, length-set xs i x'),
       call.ensures.plan ∙ inv.1,
       requests_kept take_of xs₀ xs i x x' inside at call.ensures.request same,
-      omega (arith, c.push-reserved.ensures.len, inv.3),
-      c.push-reserved.ensures.capacity ∙ inv.4,
+      omega (arith, c.push_reserved.ensures.len, inv.3),
+      c.push_reserved.ensures.capacity ∙ inv.4,
       λ narrow h led.
           walked_more take_of slices (setup first.plan) w h xs₀ xs i (vec_items c.args.replies.now) (vec_items c.loop-out.replies) m s.reservation (inv.5 narrow h led)
           inside same x at tt x' call.result m' t.reservation
           (subst (λ (p : Plan). Called (setup p) w m s.reservation (take_of x) (slices x) (slices x') call.result m' t.reservation) inv.1 (called narrow))
-          (vec_items c.push-reserved.new.self) c.push-reserved.ensures.items,
+          (vec_items c.push_reserved.new.self) c.push_reserved.ensures.items,
     )
 
 pub returns : goal.returns

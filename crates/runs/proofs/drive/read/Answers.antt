@@ -27,8 +27,8 @@ loop-call-init g c =
           walked_none request_of call_slices (setup s.plan) w h c.args.calls.now (vec_items c.args.replies.now) (model_of g.G.GroupValues.keys g.A.GroupsAccumulator.states s) s.reservation led,
     )
 
-pub push-reserved-requires : goal.push-reserved-requires
-push-reserved-requires g c =
+pub push_reserved-requires : goal.push_reserved-requires
+push_reserved-requires g c =
     let inv = c.loop-call.invariant in
     omega (arith, inv.4, inv.5, c.requires, c.loop-call-test.true, c.loop-call.auto.calls)
 
@@ -56,13 +56,13 @@ loop-call-preserved g c =
       call.ensures.plan ∙ inv.1,
       λ narrow. reads_on (setup s.plan) w m s.reservation m' t.reservation (answer_of call.result.answer) (called narrow).out x (called narrow).makes.comes ∙ inv.2 narrow,
       requests_kept request_of xs₀ xs i x x' inside at call.ensures.request same,
-      omega (arith, c.push-reserved.ensures.len, inv.4),
-      c.push-reserved.ensures.capacity ∙ inv.5,
+      omega (arith, c.push_reserved.ensures.len, inv.4),
+      c.push_reserved.ensures.capacity ∙ inv.5,
       λ narrow h led reads.
           walked_more request_of call_slices (setup first.plan) w h xs₀ xs i (vec_items c.args.replies.now) (vec_items c.loop-call.replies) m s.reservation (inv.6 narrow h led reads)
           inside same x at (may_call m x (inv.2 narrow ∙ reads)) x' call.result m' t.reservation
           (subst (λ (p : Plan). Called (setup p) w m s.reservation (request_of x) (call_slices x) (call_slices x') call.result m' t.reservation) inv.1 (called narrow))
-          (vec_items c.push-reserved.new.self) c.push-reserved.ensures.items,
+          (vec_items c.push_reserved.new.self) c.push_reserved.ensures.items,
     )
 
 pub returns : goal.returns

@@ -19,8 +19,8 @@ returns-in-Some c =
       takes.ok.0,
       c.len.ensures,
       c.len-in-Some.ensures,
-      c.saturating-add.ensures,
-      c.saturating-add-in-Some.ensures,
+      c.saturating_add.ensures,
+      c.saturating_add-in-Some.ensures,
     )
 
 pub returns-in-None : goal.returns-in-None
@@ -28,4 +28,4 @@ returns-in-None c =
     let s = c.args.self.now in
     let all : length (requests_of s) ≡ length (map request_of (vec_items s.reading)) + length (closing_requests s.closing) = length-append (map request_of (vec_items s.reading)) (closing_requests s.closing) in
     let closing = ap (λ x. length (closing_requests x)) c.in-None.is in
-    omega (arith, all, closing, length-map (vec_items s.reading) request_of, s.reading.ok.0, c.len-in-None.ensures, c.len-in-None.type-inv)
+    omega (arith, all, closing, length-map (vec_items s.reading) request_of, s.reading.ok.0, c.len-in-None.ensures, c.len-in-None.type_inv)
