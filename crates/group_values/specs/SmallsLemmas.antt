@@ -37,11 +37,11 @@ module _ (t : GroupValuesSmall) where
     pub small_emitted : map slot_key (take n rotated) ≡ left e (small_keys t)
     small_emitted = ap (map slot_key) front ∙ emit_leaves e t.slots t.len count within drops slot_key
 
-    pub emitted-distinct : Distinct (map slot_key (take n rotated))
-    emitted-distinct = subst Distinct (sym small_emitted) (distinct-left e (small_keys t) (slots_distinct (take t.len t.slots) t.links small_index))
+    pub emitted_distinct : Distinct (map slot_key (take n rotated))
+    emitted_distinct = subst Distinct (sym small_emitted) (distinct-left e (small_keys t) (slots_distinct (take t.len t.slots) t.links small_index))
 
-    pub emitted-below : Below (take n rotated)
-    emitted-below =
+    pub emitted_below : Below (take n rotated)
+    emitted_below =
         subst Below (sym (front ∙ shifted e t.slots t.len count within drops)) (below_drop (take t.len t.slots) count t.below)
 
   module _ (s : ℕ) (below : s < 65) (free : slice_index_or t.links s 0 ≡ 0) where

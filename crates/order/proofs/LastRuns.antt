@@ -47,31 +47,31 @@ both : (a b : Bool) → (a && b) ≡ true → (a ≡ true) × (b ≡ true)
 both true b e = (refl, e)
 both false b e = absurd (true≢false (sym e))
 
-same_all : (k : List CellOf) (ks : List (List CellOf)) → all_same k ks ≡ true → (i : ℕ) → i < length ks → get_or ks i [] ≡ k
-same_all k [] e i l = absurd (omega arith)
-same_all k (x ∷ xs) e zero l = sym ((key_decides k x).0 (both (same_key k x) (all_same k xs) e).0)
-same_all k (x ∷ xs) e (suc i) l = same_all k xs (both (same_key k x) (all_same k xs) e).1 i (omega arith)
+all_same-at : (k : List CellOf) (ks : List (List CellOf)) → all_same k ks ≡ true → (i : ℕ) → i < length ks → get_or ks i [] ≡ k
+all_same-at k [] e i l = absurd (omega arith)
+all_same-at k (x ∷ xs) e zero l = sym ((key_decides k x).0 (both (same_key k x) (all_same k xs) e).0)
+all_same-at k (x ∷ xs) e (suc i) l = all_same-at k xs (both (same_key k x) (all_same k xs) e).1 i (omega arith)
 
-all_same_lem : (k : List CellOf) (ks : List (List CellOf)) → ((i : ℕ) → i < length ks → get_or ks i [] ≡ k) → all_same k ks ≡ true
-all_same_lem k [] h = refl
-all_same_lem k (x ∷ xs) h =
+all_same-from : (k : List CellOf) (ks : List (List CellOf)) → ((i : ℕ) → i < length ks → get_or ks i [] ≡ k) → all_same k ks ≡ true
+all_same-from k [] h = refl
+all_same-from k (x ∷ xs) h =
     ap (λ (b : Bool). b && all_same k xs) ((key_decides k x).1 (sym (h 0 (omega arith))))
-    ∙ all_same_lem k xs (λ i l. h (suc i) (omega arith))
+    ∙ all_same-from k xs (λ i l. h (suc i) (omega arith))
 
-get_d_after : (k : List CellOf) (ks : List (List CellOf)) (n : ℕ) → 0 < n → get_or (k ∷ ks) n [] ≡ get_or ks (n - 1) []
-get_d_after k ks zero p = absurd (omega arith)
-get_d_after k ks (suc n) p = let e : n ≡ suc n - 1 = omega arith in ap (λ (j : ℕ). get_or ks j []) e
+get_or_after : (k : List CellOf) (ks : List (List CellOf)) (n : ℕ) → 0 < n → get_or (k ∷ ks) n [] ≡ get_or ks (n - 1) []
+get_or_after k ks zero p = absurd (omega arith)
+get_or_after k ks (suc n) p = let e : n ≡ suc n - 1 = omega arith in ap (λ (j : ℕ). get_or ks j []) e
 
 module _ (k : List CellOf) (ks : List (List CellOf)) where
   later : all_same k ks ≡ false → 0 < length ks
-  later e = elim (cases_lt 0 (length ks)) [ inl l ↦ l | inr m ↦ absurd (true≢false (sym (all_same_lem k ks (λ i l. absurd (omega arith))) ∙ e)) ]
+  later e = elim (cases_lt 0 (length ks)) [ inl l ↦ l | inr m ↦ absurd (true≢false (sym (all_same-from k ks (λ i l. absurd (omega arith))) ∙ e)) ]
 
   run_whole : all_same k ks ≡ true → LastRun (k ∷ ks) 0
   run_whole e = record {
     inside = omega arith;
     equal = λ i. elim i as (λ n. 0 ≤ n → n < suc (length ks) → get_or (k ∷ ks) n [] ≡ k) [
       | zero ↦ λ q l. refl
-      | suc j ↦ λ q l. same_all k ks e j (omega arith)
+      | suc j ↦ λ q l. all_same-at k ks e j (omega arith)
     ];
     begins = λ q. absurd (omega arith);
   }
@@ -87,11 +87,11 @@ module _ (k : List CellOf) (ks : List (List CellOf)) where
         let i : last_run ks ≡ suc (last_run ks) - 1 = omega arith in
         let before : get_or (k ∷ ks) (last_run ks) [] ≡ get_or ks (last_run ks) [] = ap (λ (n : ℕ). get_or (k ∷ ks) n []) i ∙ same in
         elim (cases_lt 0 (last_run ks)) [
-          | inl l ↦ run.begins l (sym (get_d_after k ks (last_run ks) l) ∙ before)
+          | inl l ↦ run.begins l (sym (get_or_after k ks (last_run ks) l) ∙ before)
           | inr m ↦
               let z : 0 ≡ last_run ks = omega arith in
               let first : k ≡ get_or ks (last_run ks) [] = ap (λ (n : ℕ). get_or (k ∷ ks) n []) z ∙ before in
-              true≢false (sym (all_same_lem k ks (λ i l. run.equal i (omega arith) l ∙ sym first)) ∙ e)
+              true≢false (sym (all_same-from k ks (λ i l. run.equal i (omega arith) l ∙ sym first)) ∙ e)
         ];
   }
 
@@ -100,9 +100,9 @@ module _ (k : List CellOf) (ks : List (List CellOf)) where
   run_either false e rest = run_within e (rest (later e))
 
 -- the run that `last_run` finds
-pub last-run : (ks : List (List CellOf)) → 0 < length ks → LastRun ks (last_run ks)
-last-run [] p = absurd (omega arith)
-last-run (k ∷ ks) p = run_either k ks (all_same k ks) refl (last-run ks)
+pub last_run-is : (ks : List (List CellOf)) → 0 < length ks → LastRun ks (last_run ks)
+last_run-is [] p = absurd (omega arith)
+last_run-is (k ∷ ks) p = run_either k ks (all_same k ks) refl (last_run-is ks)
 
 pub one_run : (ks : List (List CellOf)) (s t : ℕ) → LastRun ks s → LastRun ks t → s ≡ t
 one_run ks s t p q =
@@ -148,6 +148,6 @@ module _ (ks : List (List CellOf)) (i s : ℕ) (key : List CellOf) (so_far : Sca
   pub scanned_all : i ≡ length ks → s ≡ last_run ks
   scanned_all e =
       elim (cases_lt 0 (length ks)) [
-        | inl l ↦ one_run ks s (last_run ks) (run_all ks i s e (so_far.some (omega arith))) (last-run ks l)
+        | inl l ↦ one_run ks s (last_run ks) (run_all ks i s e (so_far.some (omega arith))) (last_run-is ks l)
         | inr m ↦ so_far.none (omega arith) ∙ sym (ap last_run (nil_from_length ks (omega arith)))
       ]

@@ -1,7 +1,7 @@
 -- The slots that are left are the front of the rotated array.
 use Rattle.std.proofs.Common.{◌≡◌, ◌-◌, refl, arith}
 use Rattle.std.proofs.lemmas.List.{length-take}
-use Rattle.group_values.specs.SmallsLemmas.{small_emitted, emitted-distinct, emitted-below}
+use Rattle.group_values.specs.SmallsLemmas.{small_emitted, emitted_distinct, emitted_below}
 use Rattle.group_values.proofs.small.GroupValuesSmallGroupValues.emit.Goals as goal
 
 pub links_of-links-requires : goal.links_of-links-requires
@@ -13,8 +13,8 @@ links_of-links-requires c =
     let rest : n ≡ t.len - count = omega arith in (
       omega (arith, length-take n rotated, t.sized.1),
       (
-        emitted-below t c.args.emit_to count n rotated c.drop_count-count.ensures c.rotate_left.ensures.after rest,
-        emitted-distinct t c.args.emit_to count n rotated c.drop_count-count.ensures c.rotate_left.ensures.after rest,
+        emitted_below t c.args.emit_to count n rotated c.drop_count-count.ensures c.rotate_left.ensures.after rest,
+        emitted_distinct t c.args.emit_to count n rotated c.drop_count-count.ensures c.rotate_left.ensures.after rest,
       ),
     )
 
