@@ -1,15 +1,14 @@
 -- The worked examples are what the definitions give.
-use Rattle.std.proofs.Common.{◌≡◌, ℕ, Bool, true, false, cond, ◌&&◌, eqb, ltb, List, [], Some, None, Option, sym, refl, ap, ◌∙◌}
+use Rattle.std.proofs.Common.{◌≡◌, ℕ, Bool, false, cond, ◌&&◌, eqb, ltb, List, Some, None, refl, ap, ◌∙◌}
 use lib.Count.{count_leading_zeros}
 use lib.Ieee.{round, units, odd, size, span, climb, of_int, div, lt}
 use Rattle.std.specs.Int.{int_wrap}
-use Rattle.cells.specs.declared.emit_to.EmitTo.{EmitTo}
 use Rattle.cells.specs.declared.emit_to.EmitTo.TheVariants.{First}
 use Rattle.cells.specs.Rows.{CellOf}
-use Rattle.order.specs.Orders.{Mode, linear, Order, oom_emit_to, oom_emit_to_in}
+use Rattle.order.specs.Orders.{Mode, oom_emit_to, oom_emit_to_in}
 use Rattle.accumulators.specs.Aggregations.{Aggregation}
 use Rattle.model.specs.Setups.{Settings, Setup}
-use Rattle.model.specs.Machine.{Model, count, emits}
+use Rattle.model.specs.Machine.{Model, count}
 use Rattle.model.specs.Steps.{Outcome, wanted, emits_if, no_memory, reserved}
 use Rattle.cases.specs.Worked.{setup, Refused, WorkedCases}
 

@@ -1,5 +1,5 @@
 -- The worked examples, as one statement. Assumes nothing.
-use Rattle.std.specs.Prelude.{◌≡◌, ℕ, ◌-◌, ◌^◌, Bool, true, false, List, [], ◌∷◌, replicate, ℤ, pos, negsuc, Some, None, Ok, Err, Float}
+use Rattle.std.specs.Prelude.{◌≡◌, ℕ, ◌-◌, ◌^◌, Bool, true, false, List, [], ◌∷◌, replicate, negsuc, Some, None, Ok, Err, Float}
 use Rattle.std.specs.Float.{binary64}
 use Rattle.std.specs.Float.Ieee.{round}
 use Rattle.cells.specs.declared.emit_to.EmitTo.TheVariants.{First}

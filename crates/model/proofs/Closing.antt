@@ -10,7 +10,7 @@ use Rattle.order.specs.Orders.{emit_to, oom_emit_to}
 use Rattle.order.specs.Skip.{told}
 use Rattle.model.specs.Setups.{Setup, need, out_width}
 use Rattle.model.specs.Machine.{Model, Phase, grouping, waiting, bypassing, stopped, with_phase, with_probe, with_held, with_rows, count, says, none, absorbed, emits}
-use Rattle.model.specs.Steps.{Outcome, outcome, accepted, unaltered, wanted, limited, piece, ending, ended, emits_asking, no_memory, emits_if, reserved, probed, prefixed, settled, grouped, accepted_in, offer_fault, offered_if, offered, emptied, passed_on, taken_in, taken}
+use Rattle.model.specs.Steps.{Outcome, outcome, accepted, unaltered, wanted, limited, piece, ending, ended, emits_asking, no_memory, emits_if, reserved, probed, prefixed, settled, accepted_in, offer_fault, offered_if, offered, emptied, passed_on, taken_in, taken}
 
 module _ {S : Type 0} (u : Setup S) where
   -- either of two outcomes, and either of two ends

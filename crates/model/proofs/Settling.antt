@@ -8,7 +8,7 @@ use Rattle.cells.specs.declared.emit_to.EmitTo.TheVariants.{First}
 use Rattle.order.specs.Orders.{Mode, linear, sorted, partially, Order, emit_to, emit_to_in, marked, removed_in, removed}
 use Rattle.model.specs.Setups.{Setup}
 use Rattle.model.specs.Machine.{Groups, grouping, waiting, Model, count, emission, shed, emits}
-use Rattle.model.specs.Steps.{Outcome, no_memory, reserved, probed, prefixed, limited, settled, ended}
+use Rattle.model.specs.Steps.{Outcome, no_memory, reserved, probed, prefixed, limited, settled}
 use Rattle.model.specs.Law.{sorted_by}
 use Rattle.model.proofs.Gathering.{Cells, all_gathered}
 use Rattle.model.proofs.SortRuns.{Split}

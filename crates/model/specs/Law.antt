@@ -4,13 +4,13 @@ use Rattle.std.specs.List.Sorted.{IsPermutation}
 use Rattle.cells.specs.Rows.{CellOf}
 use Rattle.cells.specs.Same.{same_key}
 use Rattle.group_by.specs.Sets.{IdsDiffer}
-use Rattle.accumulators.specs.Aggregations.{Aggregation, Lawful}
+use Rattle.accumulators.specs.Aggregations.{Lawful}
 use Rattle.order.specs.Runs.{sort_key}
 use Rattle.order.specs.Orders.{Mode, linear, sorted, partially}
-use Rattle.model.specs.Setups.{Setup, num_sets, key_width, row_key, need, out_row, own}
+use Rattle.model.specs.Setups.{Setup, num_sets, key_width, row_key, need, own}
 use Rattle.model.specs.Questions.{settings_fault}
 use Rattle.model.specs.Machine.{Model, count, held_pairs, grand_keys}
-use Rattle.model.specs.Runs.{Reservation, Event, Leads, accepted_rows, handed_out, waiting_in, Done}
+use Rattle.model.specs.Runs.{Reservation, Event, accepted_rows, handed_out, waiting_in, Done}
 use Rattle.model.specs.Sql.{total, group_rows}
 
 module _ {S : Type 0} (u : Setup S) where

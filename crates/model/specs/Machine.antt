@@ -1,6 +1,6 @@
 -- What a stream holds, and the parts of its steps. Assumes nothing.
-use Rattle.std.specs.Prelude.{ℕ, zero, suc, ◌+◌, Bool, true, false, cond, ◌&&◌, List, [], ◌∷◌, ◌++◌, map, length, Some, None, Option, nat_lt}
-use Rattle.std.specs.Option.{unwrap_or, option_map}
+use Rattle.std.specs.Prelude.{ℕ, zero, suc, ◌+◌, Bool, true, false, cond, List, [], ◌∷◌, map, length, Some, None, Option, nat_lt}
+use Rattle.std.specs.Option.{unwrap_or}
 use Rattle.cells.specs.declared.emit_to.EmitTo.{EmitTo}
 use Rattle.cells.specs.declared.emit_to.EmitTo.TheVariants.{All, First}
 use Rattle.cells.specs.Rows.{CellOf}
@@ -8,8 +8,8 @@ use Rattle.cells.specs.Emits.{emitted, left}
 use Rattle.group_by.specs.Groupings.{masked_key}
 use Rattle.group_values.specs.Tables.{interned, placed}
 use Rattle.accumulators.specs.Groups.{updated}
-use Rattle.order.specs.Orders.{Order, start as unordered, opened, removed, done}
-use Rattle.order.specs.Skip.{Probe, told}
+use Rattle.order.specs.Orders.{Order, start as unordered, opened, removed}
+use Rattle.order.specs.Skip.{Probe}
 use Rattle.model.specs.Questions.{all_masked}
 use Rattle.model.specs.Setups.{Setup, first_probe, num_sets, row_key, out_row}
 

@@ -1,14 +1,13 @@
 -- The questions that settings are asked before a stream is made. Assumes nothing.
-use Rattle.std.specs.Prelude.{ℕ, suc, Bool, true, false, cond, not, ◌&&◌, ◌||◌, List, [], ◌∷◌, length, replicate, Some, None, Option, ◌==◌, nat_eq, nat_le, nat_lt, Float}
+use Rattle.std.specs.Prelude.{ℕ, suc, Bool, true, false, cond, not, ◌&&◌, ◌||◌, List, [], ◌∷◌, length, replicate, Some, None, Option, ◌==◌, nat_eq, nat_le, nat_lt}
 use Rattle.std.specs.Float.{binary64}
 use Rattle.std.specs.Float.Ieee.{round, le}
-use Rattle.cells.specs.Rows.{CellOf}
 use Rattle.cells.specs.Refusals.{Refusal, refusal}
-use Rattle.group_by.specs.Groupings.{GroupBy, masked_key}
+use Rattle.group_by.specs.Groupings.{masked_key}
 use Rattle.group_by.specs.Sets.{same_marks}
 use Rattle.aggregates.specs.declared.aggregate_expr.AggregateExpr.{AggregateExpr}
 use Rattle.order.specs.Orders.{Mode, linear, sorted, partially}
-use Rattle.model.specs.Setups.{Settings, Setup}
+use Rattle.model.specs.Setups.{Setup}
 
 abbrev pub every : {X : Type 0} → (X → Bool) → List X → Bool
 every p [] = true

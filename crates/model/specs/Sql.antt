@@ -1,5 +1,5 @@
 -- GROUP BY and GROUPING SETS: which groups some rows make, and the row of each. Knows nothing of streams. Assumes nothing.
-use Rattle.std.specs.Prelude.{ℕ, ◌+◌, Bool, true, false, cond, ◌&&◌, List, [], ◌∷◌, ◌++◌, map, length}
+use Rattle.std.specs.Prelude.{ℕ, ◌+◌, Bool, cond, ◌&&◌, List, [], ◌∷◌, ◌++◌, map}
 use Rattle.cells.specs.Rows.{CellOf}
 use Rattle.cells.specs.Same.{same_key}
 use Rattle.group_by.specs.Groupings.{GroupBy, key_of, masked_key}

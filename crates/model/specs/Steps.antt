@@ -1,8 +1,8 @@
 -- What each call answers and leaves: the questions in their order, and the steps. Assumes nothing.
-use Rattle.std.specs.Prelude.{ℕ, zero, suc, ◌+◌, ◌*◌, ◌/◌, ◌^◌, min, Bool, true, false, cond, not, ◌&&◌, ◌||◌, List, [], ◌∷◌, ◌++◌, length, drop, ℤ, pos, Some, None, Option, nat_le, nat_lt}
+use Rattle.std.specs.Prelude.{ℕ, zero, suc, ◌+◌, ◌*◌, ◌/◌, ◌^◌, min, Bool, true, false, cond, ◌&&◌, List, [], ◌∷◌, ◌++◌, length, drop, ℤ, Some, None, Option, nat_le, nat_lt}
 use Rattle.std.specs.Option.{option_map}
 use Rattle.cells.specs.declared.emit_to.EmitTo.{EmitTo}
-use Rattle.cells.specs.declared.emit_to.EmitTo.TheVariants.{All, First}
+use Rattle.cells.specs.declared.emit_to.EmitTo.TheVariants.{All}
 use Rattle.cells.specs.Rows.{CellOf}
 use Rattle.cells.specs.Refusals.{Refusal, refusal}
 use Rattle.cells.specs.Faults.{batch_fault}
@@ -10,7 +10,7 @@ use Rattle.cells.specs.Views.{rows_in}
 use Rattle.order.specs.Orders.{emit_to, oom_emit_to, done}
 use Rattle.order.specs.Skip.{told}
 use Rattle.model.specs.Setups.{Setup, num_sets, row_key, need, out_width}
-use Rattle.model.specs.Machine.{Groups, Phase, grouping, waiting, bypassing, stopped, Model, with_phase, with_held, with_probe, with_rows, as_ended, as_closing, count, says, absorbed, emission, emits, totalled, none, converted, groups}
+use Rattle.model.specs.Machine.{Phase, grouping, waiting, bypassing, stopped, Model, with_phase, with_held, with_probe, with_rows, as_ended, as_closing, count, says, absorbed, emits, totalled, none, converted, groups}
 
 -- a call, with the caller's slices: an offer's contents, and how long a take's are
 pub data Request : Type 0 where

@@ -1,6 +1,5 @@
 -- A take into the slices of a call.
-use Rattle.std.proofs.Common.{◌≡◌, ℕ, Bool, List, map, length, ℤ, Option, Result, sym, refl, ap, ◌∙◌, subst}
-use Rattle.cells.specs.Rows.{CellOf}
+use Rattle.std.proofs.Common.{◌≡◌, ℕ, List, length, ℤ, Option, Result, sym, ap, ◌∙◌, subst}
 use Rattle.model.specs.Setups.{Setup, out_width}
 use Rattle.model.specs.Machine.{Model}
 use Rattle.model.specs.Steps as steps

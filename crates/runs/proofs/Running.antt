@@ -1,7 +1,6 @@
 -- A script's calls make one run, of which the law holds.
 use Rattle.std.proofs.Common.{◌≡◌, ℕ, Bool, true, false, List, [], ◌∷◌, ◌++◌, map, length, ℤ, sym, refl, ap, ◌∙◌, subst, append_assoc, append-nil, arith}
 use Rattle.std.proofs.lemmas.List.{length-map}
-use Rattle.cells.specs.Rows.{CellOf}
 use Rattle.model.specs.Setups.{Setup, out_width}
 use Rattle.model.specs.Machine.{Model, start}
 use Rattle.model.specs.Steps as steps

@@ -1,5 +1,5 @@
 -- What a run of a script comes to, and the law of it. Assumes nothing.
-use Rattle.std.specs.Prelude.{◌≡◌, ℕ, Bool, true, false, List, [], ◌∷◌, ◌++◌, map, ℤ, Some, None, Ok, Err, vec_items, Option, Result}
+use Rattle.std.specs.Prelude.{◌≡◌, ℕ, Bool, List, ◌++◌, map, ℤ, Some, None, Ok, Err, vec_items, Option, Result}
 use Rattle.cells.specs.Refusals.{Refusal}
 use Rattle.cells.specs.Rows.{CellOf}
 use Rattle.accumulators.specs.Aggregations.{Aggregation}

@@ -1,4 +1,4 @@
-use Rattle.std.proofs.Common.{◌≡◌, ℕ, ◌+◌, ◌<◌, List, map, length, get_or, take, vec_items, vec_len, refl, ap, ◌∙◌, subst, arith, length-set}
+use Rattle.std.proofs.Common.{◌≡◌, ◌<◌, List, map, length, get_or, take, vec_items, refl, ap, ◌∙◌, subst, arith, length-set}
 use Rattle.std.proofs.lemmas.List.{length-map, take_all}
 use Rattle.groups.specs.declared.plan.Plan.{Plan}
 use Rattle.groups.specs.Plans.{setup_of}

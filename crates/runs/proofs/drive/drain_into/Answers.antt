@@ -1,4 +1,4 @@
-use Rattle.std.proofs.Common.{◌≡◌, length, vec_items, ap, ◌∙◌}
+use Rattle.std.proofs.Common.{length, vec_items, ap, ◌∙◌}
 use Rattle.std.proofs.lemmas.List.{with_items_is}
 use Rattle.groups.specs.Plans.{setup_of}
 use Rattle.stream.specs.Streams.{model_of, meaning}

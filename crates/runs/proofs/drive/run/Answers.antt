@@ -1,4 +1,4 @@
-use Rattle.std.proofs.Common.{◌≡◌, ℕ, ◌+◌, ◌≤◌, Bool, false, List, [], ◌∷◌, ◌++◌, map, length, Some, None, vec_items, vec_len, Option, sym, refl, ap, ◌∙◌, subst, append-nil, arith, length-append}
+use Rattle.std.proofs.Common.{◌≡◌, ℕ, ◌+◌, Bool, false, List, [], ◌∷◌, ◌++◌, map, length, Some, None, vec_items, vec_len, sym, ap, ◌∙◌, subst, append-nil, arith, length-append}
 use Rattle.std.specs.Vec.{with_items}
 use Rattle.std.proofs.lemmas.List.{length-map, with_items_is}
 use Rattle.groups.specs.declared.plan.Plan.{Plan}
@@ -8,7 +8,6 @@ use Rattle.model.specs.Machine.{Model}
 use Rattle.model.specs.Steps as steps
 use Rattle.model.specs.Steps.{finish, closed}
 use Rattle.runs.specs.Noted.{noted, LeadsNoting}
-use Rattle.model.specs.Law.{Sensible}
 use Rattle.stream.specs.Streams.{model_of, meaning}
 use Rattle.stream.specs.Calls.{Makes}
 use Rattle.stream.proofs.Offering.{lawful_asks}
