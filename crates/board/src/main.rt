@@ -11,6 +11,7 @@ use report::{Line, Report};
 use segments::{COLUMNS, SegmentReader};
 use std::alloc::{AllocError, Global};
 use std::fmt::Display;
+use std::process::ExitCode;
 use std::{env, fmt, fs};
 
 /// A cell as text: its value, or a dash where it is absent.
@@ -138,10 +139,12 @@ fn run(rt: &HostRuntime) -> anyhow::Result<()> {
     print_report(rt, &report)
 }
 
-fn main(rt: HostRuntime) -> anyhow::Result<()> {
-    let result = run(&rt);
-    if let Err(e) = &result {
-        eprintln!(rt; "board: {e}")?;
+fn main(rt: HostRuntime) -> ExitCode {
+    match run(&rt) {
+        Ok(()) => ExitCode::SUCCESS,
+        Err(e) => {
+            let _ = eprintln!(rt; "board: {e}");
+            ExitCode::FAILURE
+        }
     }
-    result
 }
