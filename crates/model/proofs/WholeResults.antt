@@ -75,8 +75,8 @@ module _ {S : Type 0} (u : Setup S) where
   module _ {R : Type 0} (w : Reservation R) (sensible : Sensible u) (single : u.settings.partial ≡ false)
       (traces : (h : List Event) (m : Model S) (r : R) → Leads u w h m r → Traced u h m)
       (h : List Event) (m : Model S) (r : R) (led : Leads u w h m r) (fin : Done m) where
-    abbrev rows_in_lem : List Cells
-    rows_in_lem = accepted_rows u.settings.columns h
+    abbrev all_rows : List Cells
+    all_rows = accepted_rows u.settings.columns h
 
     abbrev final : List Cells
     final = cond (none (logged u h)) (grand_keys u) (gathered [] (logged u h))
@@ -87,13 +87,13 @@ module _ {S : Type 0} (u : Setup S) where
         (λ _. gathered_once [] (logged u h) tt)
 
     -- the rows handed out are the whole rows of the final keys
-    handed_out_lem : TrueOrder u u.settings.order rows_in_lem → handed_out h ≡ map (whole_row u rows_in_lem) final
+    handed_out_lem : TrueOrder u u.settings.order all_rows → handed_out h ≡ map (whole_row u all_rows) final
     handed_out_lem ordered =
         let t = traces h m r led in
         let k = runs_kept u w sensible single traces h m r led (log_ordered u sensible h ordered) in
         let keys : map (λ p. p.0) t.trace ≡ final =
         sym (out-keys u t.trace t.trace_wide) ∙ ap (map (key_part u)) t.rows ∙ k.over fin.0 in
-        let joined : (k : Cells) → total u.aggregation (states_held u k t.trace) ≡ total u.aggregation (owns u k rows_in_lem) = λ k.
+        let joined : (k : Cells) → total u.aggregation (states_held u k t.trace) ≡ total u.aggregation (owns u k all_rows) = λ k.
         ap (total u.aggregation) (sym (append-nil (states_held u k t.trace)))
         ∙ ap
         (λ (ks : List Cells). total u.aggregation (states_held u k t.trace ++ states_held u k (beside u ks m.held.states)))
@@ -102,14 +102,14 @@ module _ {S : Type 0} (u : Setup S) where
         sym (append-nil (handed_out h))
         ∙ ap (λ (rs : List Cells). handed_out h ++ rs) (sym (nothing-waits m.phase fin.1))
         ∙ sym t.rows
-        ∙ rows_whole sensible single rows_in_lem t.trace joined t.trace t.trace_sound
+        ∙ rows_whole sensible single all_rows t.trace joined t.trace t.trace_sound
         (states_once t.trace (subst Once (sym keys) final_once))
-        ∙ ap (map (whole_row u rows_in_lem)) keys
+        ∙ ap (map (whole_row u all_rows)) keys
 
-    final_none : rows_in_lem ≡ [] → final ≡ grand_keys u
+    final_none : all_rows ≡ [] → final ≡ grand_keys u
     final_none e = cond-true (none (logged u h)) (grand_keys u) (gathered [] (logged u h)) (ap none (logged_none u h e))
 
-    final_some : (rows_in_lem ≡ [] → ⊥) → final ≡ gathered [] (logged u h)
+    final_some : (all_rows ≡ [] → ⊥) → final ≡ gathered [] (logged u h)
     final_some some =
         cond-false (none (logged u h)) (grand_keys u) (gathered [] (logged u h)) (go (logged u h) (λ e. some (logged_some u sensible h e)))
       where
@@ -117,7 +117,7 @@ module _ {S : Type 0} (u : Setup S) where
         go [] other = absurd (other refl)
         go (k ∷ ks) other = refl
 
-    by_rows : (rows : List Cells) → rows_in_lem ≡ rows
+    by_rows : (rows : List Cells) → all_rows ≡ rows
         → IsPermutation (group_rows u.settings.group_by u.aggregation u.settings.exprs rows) (map (whole_row u rows) final)
     by_rows [] e =
         subst (λ (xs : List Cells). IsPermutation xs (map (whole_row u []) final)) (sym (group_rows_none u sensible))
@@ -125,7 +125,7 @@ module _ {S : Type 0} (u : Setup S) where
     by_rows (row ∷ rows) e =
         let all = row ∷ rows in
         let n = num_sets u.settings in
-        let some : rows_in_lem ≡ [] → ⊥ = λ no_rows. let z : length rows_in_lem ≡ 0 = ap length no_rows in omega (arith, ap length e) in
+        let some : all_rows ≡ [] → ⊥ = λ no_rows. let z : length all_rows ≡ 0 = ap length no_rows in omega (arith, ap length e) in
         let is = final_some some in
         subst (λ (xs : List Cells). IsPermutation xs (map (whole_row u all) final)) (sym (group-rows u sensible row rows))
         (once_shuffled (whole_row u all) (apart_keys u all 0 n) final (apart_keys_once u sensible all 0 n (omega arith)) final_once
@@ -134,19 +134,19 @@ module _ {S : Type 0} (u : Setup S) where
         (λ k i. apart_in u all 0 n k (subst (λ (rs : List Cells). In k (accepted_keys u rs)) e
         (logged_only u k h (gathered_only (logged u h) k (subst (In k) is i))))))
 
-    pub whole_results : TrueOrder u u.settings.order rows_in_lem
-        → IsPermutation (group_rows u.settings.group_by u.aggregation u.settings.exprs rows_in_lem) (handed_out h)
+    pub whole_results : TrueOrder u u.settings.order all_rows
+        → IsPermutation (group_rows u.settings.group_by u.aggregation u.settings.exprs all_rows) (handed_out h)
     whole_results ordered =
-        subst (λ (rs : List Cells). IsPermutation (group_rows u.settings.group_by u.aggregation u.settings.exprs rows_in_lem) rs)
-        (sym (handed_out_lem ordered)) (by_rows rows_in_lem refl)
+        subst (λ (rs : List Cells). IsPermutation (group_rows u.settings.group_by u.aggregation u.settings.exprs all_rows) rs)
+        (sym (handed_out_lem ordered)) (by_rows all_rows refl)
 
     -- no rows have every order
-    none_ordered : (mode : Mode) → rows_in_lem ≡ [] → TrueOrder u mode rows_in_lem
+    none_ordered : (mode : Mode) → all_rows ≡ [] → TrueOrder u mode all_rows
     none_ordered linear e = tt
     none_ordered sorted e = subst (TrueOrder u sorted) (sym e) (λ i j l a b c. absurd (omega arith))
     none_ordered (partially positions) e = subst (TrueOrder u (partially positions)) (sym e) (λ i j l a b c. absurd (omega arith))
 
-    pub grand_results : rows_in_lem ≡ [] → handed_out h ≡ grand_totals u
+    pub grand_results : all_rows ≡ [] → handed_out h ≡ grand_totals u
     grand_results e =
         handed_out_lem (none_ordered u.settings.order e)
         ∙ ap (λ (rs : List Cells). map (whole_row u rs) final) e

@@ -1,7 +1,14 @@
--- The rows that are handed out are the first of those that wait, and the others wait on.
-use Rattle.std.proofs.Common.{◌≡◌, ℕ, ◌+◌, ◌-◌, min, List, map, length, take, drop, sym, ap, ◌∙◌, inl, inr, arith}
-use Rattle.std.proofs.lemmas.List.{length-drop, take_all, drop_all, drop-drop, take-map, drop-map}
+-- A new row waits behind the others; the rows that are handed out are the first of those that wait, and the others wait on.
+use Rattle.std.proofs.Common.{◌≡◌, ℕ, ◌+◌, ◌-◌, ◌≤◌, min, List, [], ◌∷◌, ◌++◌, map, length, take, drop, sym, ap, ◌∙◌, inl, inr, arith}
+use Rattle.std.proofs.lemmas.List.{length-drop, take_all, drop_all, drop-drop, drop-append-le, take-map, drop-map, map_push}
 use Rattle.std.proofs.lemmas.Bool.{cases_lt}
+
+pub row_waits : {X Y : Type 0} (f : X → Y) (items after : List X) (at : ℕ) (row : X) → at ≤ length items → after ≡ items ++ row ∷ []
+    → map f (drop at after) ≡ map f (drop at items) ++ f row ∷ []
+row_waits {X} f items after at row within is =
+    ap (λ (xs : List X). map f (drop at xs)) is
+    ∙ ap (map f) (drop-append-le at items (row ∷ []) within)
+    ∙ map_push f (drop at items) row
 
 module _ {X Y : Type 0} (f : X → Y) (items : List X) (at n end : ℕ) (ends : end ≡ at + min n (length items - at)) where
   pub handed_out : map f (take (end - at) (drop at items)) ≡ take n (map f (drop at items))
