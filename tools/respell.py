@@ -96,7 +96,7 @@ def mapping(own, specs, taken):
     return turned
 
 
-def respelled(text, turned, parts, proof):
+def respelled(text, turned, parts):
     aliases = set(ALIAS.findall(text))
 
     def word(m):
@@ -113,9 +113,6 @@ def respelled(text, turned, parts, proof):
     return TOKEN.sub(word, text)
 
 
-GHOST = re.compile(r"^\s*(?:pub )?(?:ghost\b|ensures\b|requires\b|old:|new:|[|×→].*⌝)|ensures|requires")
-
-
 def main(top, only_list):
     texts = {p: p.read_text(encoding="utf-8") for p in antt_files(top)}
     own, specs, parts, taken = names(top, texts)
@@ -125,15 +122,15 @@ def main(top, only_list):
             print(old, "->", new)
         return
     for p, t in texts.items():
-        p.write_text(respelled(t, turned, parts, True), encoding="utf-8")
+        p.write_text(respelled(t, turned, parts), encoding="utf-8")
     camel = {o: n for o, n in turned.items() if re.search("[A-Z]", o)}
     for p in list(top.glob("crates/*/src/*.rt")) + list(top.glob("crates/*/must-fail/*.edit")):
         lines = p.read_text(encoding="utf-8").split("\n")
-        out = [respelled(line, turned if line.lstrip().startswith(("ghost", "ensures", "requires")) else camel, parts, False) for line in lines]
+        out = [respelled(line, turned if line.lstrip().startswith(("ghost", "ensures", "requires")) else camel, parts) for line in lines]
         p.write_text("\n".join(out), encoding="utf-8")
     for p in list(top.glob("docs/*.md")) + [top / "README.md"]:
         t = p.read_text(encoding="utf-8")
-        p.write_text(re.sub(r"`[^`\n]+`", lambda m: respelled(m.group(0), camel, set(camel), False), t), encoding="utf-8")
+        p.write_text(re.sub(r"`[^`\n]+`", lambda m: respelled(m.group(0), camel, set(camel)), t), encoding="utf-8")
 
 
 if __name__ == "__main__":

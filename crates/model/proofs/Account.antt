@@ -13,7 +13,6 @@ use Rattle.model.specs.Setups.{Setup, num_sets, key_width, row_key, need, out_wi
 use Rattle.model.specs.Machine.{Groups, Phase, grouping, waiting, bypassing, stopped, Model, with_held, with_probe, with_rows, as_closing, count, says, absorbed_set, absorbed_from, absorbed, interned_all, totalled, none, groups}
 use Rattle.model.specs.Steps.{Request, offer, take, finish, Answer, accepted, handed, closed, Outcome, outcome, offer_fault, ended, ending, wanted, emits_if, reserved, probed, prefixed, limited, settled, accepted_in, offered_if, emptied, piece, passed_on, taken_in, finished_in, step}
 use Rattle.model.specs.Runs.{Reservation, Asked, Event, Leads, Done}
-use Rattle.model.specs.Law.{LawfulAsks}
 use Rattle.model.proofs.Traced.{Traced}
 use Rattle.model.proofs.Gathering.{Cells}
 
@@ -137,6 +136,13 @@ module _ {S : Type 0} (u : Setup S) where
   step-settles m finish g h = finished-settles m.phase (as_closing m) g
 
 -- ---- runs
+
+-- what every reservation keeps: it remembers its answer, a grant makes the bytes what was asked, a refusal leaves them, and
+-- what is no growth is granted
+abbrev pub LawfulAsks : {R : Type 0} → Reservation R → Type 0
+LawfulAsks {R} w =
+    (s : R) (n : ℕ) (a : Bool) (t : R) → w.asks s n a t → (w.granted t ≡ a) × (w.bytes t ≡ cond a n (w.bytes s)) ×
+    (n ≤ w.bytes s → a ≡ true)
 
 module _ {S R : Type 0} (u : Setup S) (w : Reservation R) (lawful : LawfulAsks w) where
   abbrev Reserved : ℕ → R → Type 0

@@ -3,10 +3,10 @@ use Rattle.std.proofs.Common.{List}
 use Rattle.model.specs.Setups.{Setup}
 use Rattle.model.specs.Machine.{Model}
 use Rattle.model.specs.Runs.{Reservation, Event, Leads}
-use Rattle.model.specs.Law.{Law, LawfulAsks, Sensible}
+use Rattle.model.specs.Law.{Law, Sensible}
 use Rattle.model.proofs.Tracing.{traced}
 use Rattle.model.proofs.Lossless as ll
-use Rattle.model.proofs.Account.{accounted, emptied-account}
+use Rattle.model.proofs.Account.{LawfulAsks, accounted, emptied-account}
 use Rattle.model.proofs.WholeResults.{whole_results, grand_results}
 
 pub law : {S R : Type 0} (u : Setup S) (w : Reservation R) → Sensible u → LawfulAsks w → (h : List Event) (m : Model S) (r : R) → Leads u w h m r → Law u w h m r

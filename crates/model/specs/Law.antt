@@ -1,5 +1,5 @@
 -- The law over runs: what holds of every run, wherever it breaks off. Assumes nothing.
-use Rattle.std.specs.Prelude.{◌≡◌, ℕ, zero, suc, ◌+◌, ◌<◌, ◌≤◌, Bool, true, false, cond, List, [], ◌∷◌, ◌++◌, map, length, take, drop, None, slice_index_or}
+use Rattle.std.specs.Prelude.{◌≡◌, ℕ, zero, suc, ◌+◌, ◌<◌, true, false, cond, List, [], ◌∷◌, ◌++◌, map, length, take, drop, None, slice_index_or}
 use Rattle.std.specs.List.Sorted.{IsPermutation}
 use Rattle.cells.specs.Rows.{CellOf}
 use Rattle.cells.specs.Same.{same_key}
@@ -66,13 +66,6 @@ pub record Sensible {S : Type 0} (u : Setup S) : Type 0 where
   pub lawful : Lawful u.aggregation
   pub asked : settings_fault u true ≡ None
   pub numbered : u.settings.group_by.grouped ≡ true → IdsDiffer u.settings.group_by.sets
-
--- what every reservation keeps: it remembers its answer, a grant makes the bytes what was asked, a refusal leaves them, and
--- what is no growth is granted
-abbrev pub LawfulAsks : {R : Type 0} → Reservation R → Type 0
-LawfulAsks {R} w =
-    (s : R) (n : ℕ) (a : Bool) (t : R) → w.asks s n a t → (w.granted t ≡ a) × (w.bytes t ≡ cond a n (w.bytes s)) ×
-    (n ≤ w.bytes s → a ≡ true)
 
 -- What holds of a run's history, the stream and the reservation that it led to
 pub record Law {S R : Type 0} (u : Setup S) (w : Reservation R) (h : List Event) (m : Model S) (r : R) : Type 0 where

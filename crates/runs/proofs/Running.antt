@@ -7,7 +7,8 @@ use Rattle.model.specs.Steps as steps
 use Rattle.model.specs.Steps.{Request, finish, closed}
 use Rattle.model.specs.Runs.{Reservation}
 use Rattle.runs.specs.Noted.{Noted, noted, event_of, LeadsNoting}
-use Rattle.model.specs.Law.{Sensible, LawfulAsks}
+use Rattle.model.specs.Law.{Sensible}
+use Rattle.model.proofs.Account.{LawfulAsks}
 use Rattle.model.proofs.EveryRun.{law}
 use Rattle.stream.specs.Calls.{Makes}
 use Rattle.runs.specs.declared.script.Answer.{Answer}
@@ -63,7 +64,7 @@ module _ {S R : Type 0} (u : Setup S) (w : Reservation R) (sensible : Sensible u
   module _ (m₂ : Model S) (r₂ : R) (closes : Makes u w m r finish closed [] m₂ r₂) (reads : m.closing ≡ false) (rs₂ : List Reply) (reply : Reply) (pushed : rs₂ ≡ rs ++ reply ∷ [])
       (tells-so : tells reply ≡ (closed, w.bytes r₂, w.granted r₂)) where
     pub closed-leads : LeadsNoting u w (noted finish closed [] (w.bytes r₂) (w.granted r₂) ∷ k.events) m₂ r₂
-    closed-leads = let comes = closes.comes in (m, r, comes.0, comes.1, comes.2, read_leads, reads, comes.3, comes.4, refl, refl)
+    closed-leads = (m, r, read_leads, reads, closes.comes, refl, refl)
 
     -- finish is called, and rows are taken
     pub ran_closing : (ys ys' : List Buffers) (rs₃ : List Reply) (m₃ : Model S) (r₃ : R)

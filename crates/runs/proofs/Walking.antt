@@ -69,12 +69,11 @@ module _ {X S R : Type 0} (req : X → Request) (sl : X → Slices) (u : Setup S
         → Walked u w h (take (i + 1) (map req xs₀)) (map sl xs₀) (map sl (set xs i x')) (map tells rs₀) (map tells rs') m' r'
     walked_more may x' reply m' r' called rs' pushed =
         let e : Noted = noted (req x) (answer_of reply.answer) called.out (w.bytes r') (w.granted r') in
-        let comes = called.makes.comes in
         let reads : tells reply ≡ told e =
         ap (λ (b : ℕ). (answer_of reply.answer, b, reply.granted)) called.bytes_are ∙ ap (λ (b : Bool). (answer_of reply.answer, w.bytes r', b)) called.granted_are in
         record {
           events = e ∷ k.events;
-          leads = (m, r, comes.0, comes.1, comes.2, k.leads, may, comes.3, comes.4, refl, refl);
+          leads = (m, r, k.leads, may, called.makes.comes, refl, refl);
           requests_are = map-join (λ (y : Noted). y.request) (in_order k.events) (e ∷ [])
               ∙ ap (λ (qs : List Request). qs ++ req x ∷ []) k.requests_are
               ∙ ap (λ (q : Request). take i (map req xs₀) ++ q ∷ []) here

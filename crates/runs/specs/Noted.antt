@@ -3,8 +3,9 @@ use Rattle.std.specs.Prelude.{◌≡◌, ℕ, Bool, List, [], ◌∷◌}
 use Rattle.cells.specs.Rows.{CellOf}
 use Rattle.model.specs.Setups.{Setup}
 use Rattle.model.specs.Machine.{Model}
-use Rattle.model.specs.Steps.{Request, Answer, outcome, step}
-use Rattle.model.specs.Runs.{Reservation, Asked, Event, event, May, Leads}
+use Rattle.model.specs.Steps.{Request, Answer, step}
+use Rattle.model.specs.Runs.{Reservation, Event, event, May, Leads}
+use Rattle.stream.specs.Streams.{Comes}
 
 -- a call, its answer, the rows it handed out, and the reservation after it: its bytes and its last answer
 pub record Noted : Type 0 where
@@ -26,6 +27,5 @@ module _ {S R : Type 0} (u : Setup S) (w : Reservation R) where
   abbrev pub LeadsNoting : List Noted → Model S → R → Type 0
   LeadsNoting [] m r = Leads u w [] m r
   LeadsNoting (e ∷ h) m r =
-      (m₀ : Model S) × (r₀ : R) × (g : Bool) × (g' : Bool) × (qs : List (ℕ × Bool))
-      × LeadsNoting h m₀ r₀ × May m₀ e.request × (step u m₀ e.request g g' ≡ outcome m e.answer e.out qs) × Asked w r₀ qs r
+      (m₀ : Model S) × (r₀ : R) × LeadsNoting h m₀ r₀ × May m₀ e.request × Comes w (step u m₀ e.request) r₀ m r e.answer e.out
       × (e.bytes ≡ w.bytes r) × (e.granted ≡ w.granted r)

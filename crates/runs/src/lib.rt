@@ -4,6 +4,8 @@
 
 mod drive;
 mod script;
+#[cfg(test)]
+mod tests;
 
 pub use drive::run;
 pub use script::{Answer, Buffers, Call, Reply, Run, Script, Stage};

@@ -11,7 +11,7 @@ use Rattle.model.specs.Setups.{Setup}
 use Rattle.model.specs.Machine.{Model}
 use Rattle.model.specs.Steps.{Request, Answer, outcome, or_else, reading_fault, total_fault, grouping_fault, offer_fault, accepted_in, offered_if, offered, step}
 use Rattle.model.specs.Runs.{Reservation, event, Leads}
-use Rattle.model.specs.Law.{LawfulAsks}
+use Rattle.model.proofs.Account.{LawfulAsks}
 use Rattle.model.proofs.Cases.{never}
 use Rattle.model.proofs.EveryRun.{law}
 use Rattle.stream.specs.declared.faults.OfferFault.{OfferFault}
