@@ -2,3 +2,4 @@ pub mod Rows
 pub mod Flags
 pub mod Alike
 pub mod Same
+pub mod Filled

@@ -1,5 +1,5 @@
 -- What an emission hands out of a list, and what it leaves. Assumes nothing.
-use Rattle.std.specs.Prelude.{List, [], take, drop}
+use Rattle.std.specs.Prelude.{ℕ, min, List, [], take, drop}
 use Rattle.cells.specs.declared.emit_to.EmitTo.{EmitTo}
 use Rattle.cells.specs.declared.emit_to.EmitTo.TheVariants.{All, First}
 
@@ -11,3 +11,8 @@ emitted (First n) xs = take n xs
 abbrev pub left : {X : Type 0} → EmitTo → List X → List X
 left All xs = []
 left (First n) xs = drop n xs
+
+-- how many of n items an emission hands out
+abbrev pub dropped : EmitTo → ℕ → ℕ
+dropped All n = n
+dropped (First m) n = min m n

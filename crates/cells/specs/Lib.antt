@@ -3,5 +3,5 @@ pub mod Refusals
 pub mod Faults
 pub mod Views
 pub mod Emits
-pub mod Keys
+pub mod Filled
 pub mod Same

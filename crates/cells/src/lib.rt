@@ -5,10 +5,13 @@
 #![tactic(auto)]
 
 mod batch;
+mod cell_row;
 mod emit_to;
 mod key;
-mod keys;
+mod writing;
 
 pub use batch::{Batch, BatchFault, Cell, MAX_BATCH_ROWS};
+pub use cell_row::CellRow;
 pub use emit_to::{EmitTo, MAX_GROUPS};
 pub use key::{Key, MAX_KEY_CELLS};
+pub use writing::put;
