@@ -1,6 +1,7 @@
 -- Where a cell of a row stands.
-use Rattle.std.proofs.Common.{◌≡◌, ℕ, zero, suc, ◌+◌, ◌*◌, ◌<◌, ◌≤◌, List, [], ◌∷◌, length, get_or, take, drop, ℤ, pos, None, sym, refl, ap, ◌∙◌, arith}
+use Rattle.std.proofs.Common.{◌≡◌, ℕ, zero, suc, ◌+◌, ◌*◌, ◌<◌, ◌≤◌, List, [], ◌∷◌, length, get_or, take, drop, ℤ, pos, None, refl, ap, ◌∙◌, arith}
 use Rattle.std.proofs.lemmas.List.{get_or-take, get_or-drop, get_or_past, length-take}
+use Rattle.std.proofs.Math.Nat.{mul-le-mul_right}
 use Rattle.cells.specs.Rows.{CellOf, cell_of, cells_of, rows_of}
 
 pub cells_at : (vs : List ℤ) (fs : List ℕ) (k : ℕ) (v : ℤ) (f : ℕ) → k < length vs → k < length fs
@@ -45,17 +46,14 @@ cell_at (suc n) C cells (suc r) c p q =
     ∙ get_or-drop C cells (r * C + c) None
     ∙ ap (λ (k : ℕ). get_or cells k None) (omega arith)
 
-module _ (n C : ℕ) (vs : List ℤ) (fs : List ℕ) (r c : ℕ) (p : r < n) (q : c < C) where
-  -- a place past the values holds nothing
-  pub cell_past : length vs ≤ r * C + c → get_or (get_or (rows_of n C (cells_of vs fs)) r []) c None ≡ None
-  cell_past h = cell_at n C (cells_of vs fs) r c p q ∙ cells_past_values vs fs (r * C + c) h
-
-  pub flag_past : length fs ≤ r * C + c → get_or (get_or (rows_of n C (cells_of vs fs)) r []) c None ≡ None
-  flag_past h = cell_at n C (cells_of vs fs) r c p q ∙ cells_past_flags vs fs (r * C + c) h
+module _ (n C : ℕ) (vs : List ℤ) (fs : List ℕ) (whole : length vs ≡ n * C) (even : length fs ≡ n * C) (r c : ℕ) (p : r < n) (q : c < C) where
+  place-lt : r * C + c < n * C
+  place-lt =
+      let next : suc r * C ≤ n * C = mul-le-mul_right C p in
+      omega (arith, next)
 
   -- what stands there is the value, where its flag is 1
-  pub cell_is : (k : ℕ) → k ≡ r * C + c → k < length vs → k < length fs → get_or (get_or (rows_of n C (cells_of vs fs)) r []) c None ≡ cell_of (get_or vs k (pos 0)) (get_or fs k 0)
-  cell_is k e h i =
+  pub cell_is : get_or (get_or (rows_of n C (cells_of vs fs)) r []) c None ≡ cell_of (get_or vs (r * C + c) (pos 0)) (get_or fs (r * C + c) 0)
+  cell_is =
       cell_at n C (cells_of vs fs) r c p q
-      ∙ ap (λ (j : ℕ). get_or (cells_of vs fs) j None) (sym e)
-      ∙ cells_at vs fs k (pos 0) 0 h i
+      ∙ cells_at vs fs (r * C + c) (pos 0) 0 (omega (arith, place-lt, whole)) (omega (arith, place-lt, even))

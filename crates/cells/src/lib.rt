@@ -8,6 +8,7 @@ mod batch;
 mod cell_row;
 mod emit_to;
 mod key;
+mod views;
 mod writing;
 
 pub use batch::{Batch, BatchFault, Cell, MAX_BATCH_ROWS};
