@@ -1,5 +1,5 @@
 -- The cells of a key, pushed one by one.
-use Rattle.std.proofs.Common.{◌≡◌, ℕ, zero, suc, ◌+◌, ◌<◌, ◌≤◌, Bool, false, cond, List, [], ◌∷◌, ◌++◌, length, get_or, take, pos, Some, None, sym, refl, ap, ◌∙◌, add-one, arith}
+use Rattle.std.proofs.Common.{◌≡◌, ℕ, zero, suc, ◌+◌, ◌<◌, ◌≤◌, Bool, false, cond, List, [], ◌∷◌, ◌++◌, length, get_or, take, ℤ, Some, None, sym, refl, ap, ◌∙◌, add-one, arith}
 use Rattle.std.proofs.lemmas.List.{append-nil, take_all}
 use Rattle.cells.specs.Rows.{CellOf}
 use Rattle.group_by.specs.declared.keys.GroupByKeys.{GroupByKeys}
@@ -37,9 +37,8 @@ cell_more columns marks row i m cell key key' l mark is e h =
     ∙ ap (take 7) (sym (masked_more columns marks row i l))
     ∙ ap (λ (n : ℕ). take 7 (masked_cells (take n columns) marks row)) (sym (add-one i))
 
-pub no_id : (k : GroupByKeys) (s : ℕ) (key : List CellOf) → k.group_by.has_grouping_set ≡ false → length key ≤ 7
-    → key ≡ take 7 (key ++ id_cells (keys_of k) s)
-no_id k s key plain short =
-    sym (take_all 7 key short)
-    ∙ ap (take 7) (sym (append-nil key))
-    ∙ ap (λ (b : Bool). take 7 (key ++ cond b (Some (get_or (ids (keys_of k).sets) s (pos 0)) ∷ []) [])) (sym plain)
+-- an id that is pushed last ends the key
+pub id_behind : (k : GroupByKeys) (s : ℕ) (id : ℤ) (cells key key' : List CellOf) → id_cells (keys_of k) s ≡ Some id ∷ []
+    → key ≡ take 7 cells → key' ≡ take 7 (key ++ Some id ∷ []) → key' ≡ take 7 (cells ++ id_cells (keys_of k) s)
+id_behind k s id cells key key' is e h =
+    pushed cells (Some id ∷ []) key key' e h ∙ ap (λ (last : List CellOf). take 7 (cells ++ last)) (sym is)

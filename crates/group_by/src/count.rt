@@ -8,13 +8,7 @@ pub fn count_equal<T: PartialEq>(items: &[T], x: &T) -> usize
     ensures count { Counts T.eq items.now x.now result }
     ensures bound { result ≤ length items.now }
 {
-    let mut count = 0;
-    for item in items {
-        if item == x {
-            count += 1;
-        }
-    }
-    count
+    items.iter().filter(|item| *item == x).count()
 }
 
 /// Whether no position stands twice.
@@ -22,7 +16,7 @@ pub fn distinct_positions(positions: &[usize]) -> bool
     ensures { Decides result (Distinct positions.now) }
 {
     for (place, position) in positions.iter().enumerate() {
-        if count_equal(&positions[0..place], position) > 0 {
+        if count_equal(&positions[..place], position) > 0 {
             return false;
         }
     }

@@ -2,8 +2,7 @@
 //!
 //! Ported from datafusion-physical-plan 55.0.0, src/aggregates/mod.rs, and changed.
 
-ghost use Rattle.std.specs.Prelude.{◌≡◌, false, [], ◌++◌, length, take, slice_index_or};
-ghost use Rattle.cells.specs.Keys.{key_cells};
+ghost use Rattle.std.specs.Prelude.{◌≡◌, false, [], ◌∷◌, length, take, Some, MatchOption, slice_index_or};
 ghost use Rattle.cells.specs.Views.{view_rows};
 ghost use Rattle.group_by.specs.Groupings.{key_of, masked_key, id_cells};
 ghost use Rattle.group_by.specs.Keys.{keys_of, HasKeys};
@@ -22,11 +21,14 @@ impl GroupByKeys {
         if !group_by.has_grouping_set {
             return Ok(GroupByKeys {
                 group_by,
-                ids: Vec::new(heap),
+                ids: None,
             });
         }
         match group_ids(heap, &group_by.groups) {
-            Ok(ids) => Ok(GroupByKeys { group_by, ids }),
+            Ok(ids) => Ok(GroupByKeys {
+                group_by,
+                ids: Some(ids),
+            }),
             Err(fault) => Err(GroupByRefused { group_by, fault }),
         }
     }
@@ -49,7 +51,7 @@ impl GroupByKeys {
     ///
     /// A row past the last has no cells, and a set past the last no marks and the id 0.
     pub fn evaluate_group_by(&self, batch: &Batch<'_, '_>, row: usize, set: usize) -> Key
-        ensures { key_cells result ≡ take 7 (key_of (keys_of self.now) set (slice_index_or (view_rows batch.now) row [])) }
+        ensures { result ≡ take 7 (key_of (keys_of self.now) set (slice_index_or (view_rows batch.now) row [])) }
     {
         let mut key = Key::new();
         for (place, column) in self.group_by.columns.iter().enumerate() {
@@ -60,42 +62,40 @@ impl GroupByKeys {
             };
             key.push(cell);
         }
-        self.push_id(&mut key, set);
+        if let Some(id) = self.id(set) {
+            key.push(Some(id));
+        }
         key
     }
 
     /// The key of a row that is masked whole.
     pub fn masked_key(&self, set: usize) -> Key
-        ensures { key_cells result ≡ take 7 (masked_key (keys_of self.now) set) }
+        ensures { result ≡ take 7 (masked_key (keys_of self.now) set) }
     {
         let mut key = Key::new();
-        for _ in 0..self.group_by.columns.len() {
+        for _ in &self.group_by.columns {
             key.push(None);
         }
-        self.push_id(&mut key, set);
+        if let Some(id) = self.id(set) {
+            key.push(Some(id));
+        }
         key
     }
 
     fn is_masked(&self, set: usize, place: usize) -> bool
         ensures { result ≡ slice_index_or (slice_index_or (keys_of self.now).sets set []) place false }
     {
-        if set >= self.group_by.groups.len() {
-            return false;
+        match self.group_by.groups.get(set) {
+            Some(marks) => marks.get(place).copied().unwrap_or(false),
+            None => false,
         }
-        let marks = &self.group_by.groups[set];
-        place < marks.len() && marks[place]
     }
 
-    fn push_id(&self, key: &mut Key, set: usize)
-        ensures { key_cells key.new ≡ take 7 (key_cells key.old ++ id_cells (keys_of self.now) set) }
+    /// The id of a set, 0 past the last, where keys end in one.
+    fn id(&self, set: usize) -> Option<i64>
+        ensures { MatchOption result (id_cells (keys_of self.now) set ≡ []) (λ id. id_cells (keys_of self.now) set ≡ Some id ∷ []) }
     {
-        if self.group_by.has_grouping_set {
-            let id = if set < self.ids.len() {
-                self.ids[set]
-            } else {
-                0
-            };
-            key.push(Some(id));
-        }
+        let ids = self.ids.as_ref()?;
+        Some(ids.get(set).copied().unwrap_or(0))
     }
 }

@@ -1,6 +1,7 @@
 //! A grouping with the ids of its sets.
 
-ghost use Rattle.std.specs.Prelude.{◌≡◌, [], if◌then◌else◌};
+ghost use Rattle.std.specs.Prelude.{◌≡◌, Some, None, vec_items, if◌then◌else◌};
+ghost use Rattle.std.specs.Option.{option_map};
 ghost use Rattle.group_by.specs.Sets.{sets_of, ids as ids_of};
 
 use crate::physical::PhysicalGroupBy;
@@ -9,6 +10,7 @@ use crate::physical::PhysicalGroupBy;
 #[derive(Drop)]
 pub struct GroupByKeys {
     pub(crate) group_by: PhysicalGroupBy,
-    pub(crate) ids: Vec<i64>,
-    ghost worked_out: { ids.items ≡ (if group_by.has_grouping_set then ids_of (sets_of group_by.groups.items) else []) },
+    /// The ids, where keys end in one.
+    pub(crate) ids: Option<Vec<i64>>,
+    ghost worked_out: { option_map vec_items ids ≡ (if group_by.has_grouping_set then Some (ids_of (sets_of group_by.groups.items)) else None) },
 }
