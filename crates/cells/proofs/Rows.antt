@@ -11,18 +11,6 @@ cells_at (x ∷ vs) [] k v f p q = absurd (omega arith)
 cells_at (x ∷ vs) (y ∷ fs) zero v f p q = refl
 cells_at (x ∷ vs) (y ∷ fs) (suc k) v f p q = cells_at vs fs k v f (omega arith) (omega arith)
 
-pub cells_past_values : (vs : List ℤ) (fs : List ℕ) (k : ℕ) → length vs ≤ k → get_or (cells_of vs fs) k None ≡ None
-cells_past_values [] fs k p = refl
-cells_past_values (x ∷ vs) [] k p = refl
-cells_past_values (x ∷ vs) (y ∷ fs) zero p = absurd (omega arith)
-cells_past_values (x ∷ vs) (y ∷ fs) (suc k) p = cells_past_values vs fs k (omega arith)
-
-pub cells_past_flags : (vs : List ℤ) (fs : List ℕ) (k : ℕ) → length fs ≤ k → get_or (cells_of vs fs) k None ≡ None
-cells_past_flags [] fs k p = refl
-cells_past_flags (x ∷ vs) [] k p = refl
-cells_past_flags (x ∷ vs) (y ∷ fs) zero p = absurd (omega arith)
-cells_past_flags (x ∷ vs) (y ∷ fs) (suc k) p = cells_past_flags vs fs k (omega arith)
-
 pub length-rows : (n C : ℕ) (cells : List CellOf) → length (rows_of n C cells) ≡ n
 length-rows zero C cells = refl
 length-rows (suc n) C cells = ap suc (length-rows n C (drop C cells))

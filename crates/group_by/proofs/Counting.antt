@@ -1,19 +1,9 @@
--- The steps of the counting scan, and what its counts say of places that hold the same.
+-- What the counts of the scan say of places that hold the same.
 use Rattle.std.proofs.Common.{◌≡◌, ℕ, suc, ◌+◌, ◌<◌, Bool, true, cond, eqb, List, [], ◌∷◌, length, get_or, take, count_by, sym, ap, ◌∙◌, inl, inr, arith}
 use Rattle.std.proofs.lemmas.List.{get_or-take, get_or_default, length-take-le}
-use Rattle.std.proofs.lemmas.List.Sums.{sum_by_more, sum_by-cons, get_or-le-sum_by}
+use Rattle.std.proofs.lemmas.List.Sums.{sum_by-cons, get_or-le-sum_by}
 use Rattle.std.proofs.lemmas.Bool.{eqb-true, eq-eqb, cases_Bool, cases_lt}
-use Rattle.group_by.specs.Counts.{Counts, Distinct}
-
-pub counts_more : {K : Type 0} (E : K → K → Bool) (xs : List K) (x y : K) (i n m : ℕ) (t : Bool)
-    → i < length xs → y ≡ get_or xs i y → E y x ≡ t → m ≡ n + cond t 1 0
-    → Counts E (take i xs) x n → Counts E (take (i + 1) xs) x m
-counts_more E xs x y i n m t l at is e h =
-    let same : E (get_or xs i y) x ≡ t = ap (λ z. E z x) (sym at) ∙ is in
-    let one : ◌≡◌ {A = ℕ} (cond (E (get_or xs i y) x) 1 0) (cond t 1 0) = ap (λ (s : Bool). cond s 1 0) same in
-    e ∙ ap (λ (k : ℕ). k + cond t 1 0) h
-    ∙ ap (λ (k : ℕ). count_by (λ z. E z x) (take i xs) + k) (sym one)
-    ∙ sym (sum_by_more (λ z. cond (E z x) 1 0) xs i y l)
+use Rattle.group_by.specs.Counts.{Distinct}
 
 -- where the count is not 0, some element passes
 some_passes : {X : Type 0} (p : X → Bool) (xs : List X) → 0 < count_by p xs

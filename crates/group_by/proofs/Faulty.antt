@@ -1,14 +1,12 @@
 -- The scan for the first set that has no id, and the ids where each has one.
-use Rattle.std.proofs.Common.{◌≡◌, ℕ, zero, suc, ◌+◌, ◌^◌, ◌<◌, Bool, true, false, List, [], ◌∷◌, ◌++◌, map, length, get_or, drop, ℤ, is_some, Some, None, vec_items, Option, Vec, sym, refl, ap, ◌∙◌, subst, true≢false, arith, w64, to_z, of_z}
+use Rattle.std.proofs.Common.{◌≡◌, ℕ, zero, suc, ◌+◌, ◌^◌, ◌<◌, Bool, List, [], ◌∷◌, ◌++◌, map, length, get_or, drop, ℤ, Some, None, vec_items, Option, Vec, sym, refl, ap, ◌∙◌, subst, arith, w64, to_z, of_z}
 use Rattle.std.specs.List.{range_with_len}
-use Rattle.std.specs.Option.{option_map}
 use Rattle.std.specs.declared.alloc.Global.{Global}
 use Rattle.std.proofs.lemmas.List.FromFn.{length-map-range_with_len, get_or-map-range_with_len, map-range_with_len_more}
 use Rattle.std.proofs.lemmas.List.{at_drop_more, length-map}
 use Rattle.std.proofs.lemmas.Int.{of_z-to_z}
 use Rattle.cells.specs.Refusals.{Refusal}
-use Rattle.group_by.specs.declared.group_id.GroupIdFault.{GroupIdFault}
-use Rattle.group_by.specs.Ids.{group_id_refusal, group_id_fault, id_of}
+use Rattle.group_by.specs.Ids.{group_id_fault, id_of}
 use Rattle.group_by.specs.Sets.{sets_of, ordinal_of, greatest_ordinal, for_each, fault_at, first_some, sets_fault, id_at, IdsDiffer}
 use Rattle.group_by.proofs.Numbers.{id_fits}
 use Rattle.group_by.proofs.Ordinals.{marks_at, greatest_within, ids-differ}
@@ -17,29 +15,15 @@ use Rattle.group_by.proofs.Ordinals.{marks_at, greatest_within, ids-differ}
 abbrev pub Passed : List (List Bool) → ℕ → Type 0
 Passed sets i = first_some (drop i (for_each sets (fault_at sets))) ≡ sets_fault sets
 
-first_is : {X Y : Type 0} (f : X → Y) (r : Option X) (os : List (Option Y)) → is_some r ≡ true → first_some (option_map f r ∷ os) ≡ option_map f r
-first_is f None os h = absurd (true≢false (sym h))
-first_is f (Some x) os h = refl
-
-first_later : {X Y : Type 0} (f : X → Y) (r : Option X) (os : List (Option Y)) → is_some r ≡ false → first_some (option_map f r ∷ os) ≡ first_some os
-first_later f None os h = refl
-first_later f (Some x) os h = absurd (true≢false h)
-
-module _ (sets : List (List Bool)) (i : ℕ) (r : Option GroupIdFault) (l : i < length sets) (so_far : Passed sets i)
-    (at : option_map group_id_refusal r ≡ fault_at sets i) where
-  here : first_some (option_map group_id_refusal r ∷ drop (i + 1) (for_each sets (fault_at sets))) ≡ sets_fault sets
-  here =
-      let faults : List (Option Refusal) = for_each sets (fault_at sets) in
-      let e : get_or faults i None ≡ fault_at sets i = get_or-map-range_with_len (fault_at sets) 0 (length sets) i i None l (omega arith) in
-      ap (λ (o : Option Refusal). first_some (o ∷ drop (i + 1) faults)) (at ∙ sym e)
-      ∙ sym (at_drop_more first_some faults i None (omega (arith, length-map-range_with_len (fault_at sets) 0 (length sets))))
-      ∙ so_far
-
-  pub fault_here : is_some r ≡ true → option_map group_id_refusal r ≡ sets_fault sets
-  fault_here h = sym (first_is group_id_refusal r (drop (i + 1) (for_each sets (fault_at sets))) h) ∙ here
-
-  pub passed_more : is_some r ≡ false → Passed sets (i + 1)
-  passed_more h = sym (first_later group_id_refusal r (drop (i + 1) (for_each sets (fault_at sets))) h) ∙ here
+-- with what is known of the i-th set: its fault is the answer, or the sets before i + 1 have ids
+pub at_set : (sets : List (List Bool)) (i : ℕ) (o : Option Refusal) → i < length sets → Passed sets i → o ≡ fault_at sets i
+    → first_some (o ∷ drop (i + 1) (for_each sets (fault_at sets))) ≡ sets_fault sets
+at_set sets i o l so_far at =
+    let faults : List (Option Refusal) = for_each sets (fault_at sets) in
+    let e : get_or faults i None ≡ fault_at sets i = get_or-map-range_with_len (fault_at sets) 0 (length sets) i i None l (omega arith) in
+    ap (λ (p : Option Refusal). first_some (p ∷ drop (i + 1) faults)) (at ∙ sym e)
+    ∙ sym (at_drop_more first_some faults i None (omega (arith, length-map-range_with_len (fault_at sets) 0 (length sets))))
+    ∙ so_far
 
 all_none : {X : Type 0} (os : List (Option X)) → first_some os ≡ None → (k : ℕ) → k < length os → get_or os k None ≡ None
 all_none [] h k l = refl

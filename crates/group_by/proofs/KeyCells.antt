@@ -1,11 +1,9 @@
 -- The cells of a key, pushed one by one.
-use Rattle.std.proofs.Common.{◌≡◌, ℕ, zero, suc, ◌+◌, ◌<◌, ◌≤◌, Bool, false, cond, List, [], ◌∷◌, ◌++◌, length, get_or, take, ℤ, Some, None, sym, refl, ap, ◌∙◌, add-one, arith}
-use Rattle.std.proofs.lemmas.List.{append-nil, take_all}
+use Rattle.std.proofs.Common.{◌≡◌, ℕ, zero, suc, ◌+◌, ◌<◌, Bool, false, cond, List, [], ◌∷◌, ◌++◌, length, get_or, take, ℤ, Some, None, sym, refl, ap, ◌∙◌, add-one, arith}
 use Rattle.cells.specs.Rows.{CellOf}
 use Rattle.group_by.specs.declared.keys.GroupByKeys.{GroupByKeys}
 use Rattle.group_by.specs.Groupings.{masked_cells, id_cells}
 use Rattle.group_by.specs.Keys.{keys_of}
-use Rattle.group_by.specs.Sets.{ids}
 
 take_again : {X : Type 0} (n : ℕ) (xs ys : List X) → take n (take n xs ++ ys) ≡ take n (xs ++ ys)
 take_again zero xs ys = refl

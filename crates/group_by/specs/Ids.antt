@@ -36,3 +36,8 @@ group_id marks ordinal greatest =
 abbrev pub told : {X : Type 0} → Result X GroupIdFault → Result X Refusal
 told (Ok x) = Ok x
 told (Err e) = Err (group_id_refusal e)
+
+-- the refusal of an answer, if it is one
+abbrev pub refusal_of : {X : Type 0} → Result X GroupIdFault → Option Refusal
+refusal_of (Ok x) = None
+refusal_of (Err e) = Some (group_id_refusal e)

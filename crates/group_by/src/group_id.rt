@@ -3,9 +3,8 @@
 //! Ported from datafusion-physical-plan 55.0.0, src/aggregates/mod.rs, and changed.
 
 ghost use Rattle.std.specs.Prelude.{◌≡◌, ◌^◌, ◌<◌};
-ghost use Rattle.std.specs.Option.{option_map};
 ghost use Rattle.group_by.specs.Marks.{digits, Digits, width_of};
-ghost use Rattle.group_by.specs.Ids.{group_id_refusal, group_id_fault, group_id, id_of, told};
+ghost use Rattle.group_by.specs.Ids.{group_id_refusal, refusal_of, group_id_fault, group_id, id_of, told};
 ghost use Rattle.group_by.specs.Cases.{GroupIdCases};
 
 /// Why a grouping set has no id.
@@ -49,29 +48,26 @@ pub fn group_id_array(
     ensures answer { told result ≡ group_id group.now ordinal max_ordinal }
     ensures cases { GroupIdCases }
 {
-    match id_fault(group, ordinal, max_ordinal) {
-        Some(fault) => Err(fault),
-        None => {
-            let bits = group.len() as u32 + ordinal_bits(max_ordinal);
-            Ok((full_id(group, ordinal), id_width(bits)))
-        }
-    }
+    check_id(group, ordinal, max_ordinal)?;
+    let bits = group.len() as u32 + ordinal_bits(max_ordinal);
+    Ok((full_id(group, ordinal), id_width(bits)))
 }
 
-/// Why the set has no id, if it has none.
-pub(crate) fn id_fault(group: &[bool], ordinal: u64, max_ordinal: u64) -> Option<GroupIdFault>
-    ensures { option_map group_id_refusal result ≡ group_id_fault group.now ordinal max_ordinal }
+/// Whether the set has an id.
+pub(crate) fn check_id(group: &[bool], ordinal: u64, max_ordinal: u64) -> Result<(), GroupIdFault>
+    ensures { refusal_of result ≡ group_id_fault group.now ordinal max_ordinal }
 {
     let columns = group.len();
     if columns > 64 {
-        Some(GroupIdFault::TooManyColumns)
-    } else if columns as u32 + ordinal_bits(max_ordinal) > 64 {
-        Some(GroupIdFault::TooManyBits)
-    } else if ordinal > max_ordinal {
-        Some(GroupIdFault::OrdinalPastGreatest)
-    } else {
-        None
+        return Err(GroupIdFault::TooManyColumns);
     }
+    if columns as u32 + ordinal_bits(max_ordinal) > 64 {
+        return Err(GroupIdFault::TooManyBits);
+    }
+    if ordinal > max_ordinal {
+        return Err(GroupIdFault::OrdinalPastGreatest);
+    }
+    Ok(())
 }
 
 /// The ordinal with the marks behind it, one by one: 64 marks need no shift by 64.
@@ -90,13 +86,10 @@ pub(crate) fn full_id(group: &[bool], ordinal: u64) -> u64
 fn id_width(bits: u32) -> u32
     ensures { result ≡ width_of bits }
 {
-    if bits <= 8 {
-        8
-    } else if bits <= 16 {
-        16
-    } else if bits <= 32 {
-        32
-    } else {
-        64
+    match bits {
+        0..=8 => 8,
+        9..=16 => 16,
+        17..=32 => 32,
+        _ => 64,
     }
 }

@@ -3,13 +3,13 @@
 //! Ported from datafusion-physical-plan 55.0.0, src/aggregates/mod.rs, and changed.
 
 ghost use Rattle.std.specs.Prelude.{◌≡◌, ◌<◌, length};
-ghost use Rattle.std.specs.Option.{option_map};
-ghost use Rattle.group_by.specs.Ids.{group_id_refusal};
+ghost use Rattle.group_by.specs.Ids.{refusal_of};
+ghost use Rattle.group_by.specs.declared.grouping_sets.GroupByFault.TheVariants.{Id, Memory};
 ghost use Rattle.group_by.specs.Sets.{sets_of, ordinal_of, greatest_ordinal, sets_fault, HasIds};
 
 use crate::count::count_equal;
-use crate::group_id::{GroupIdFault, full_id, id_fault};
-use std::alloc::Global;
+use crate::group_id::{GroupIdFault, check_id, full_id};
+use std::alloc::{AllocError, Global};
 
 /// Why grouping sets have no ids.
 #[derive(Clone, Copy, PartialEq, Eq, Debug)]
@@ -18,6 +18,22 @@ pub enum GroupByFault {
     Id(GroupIdFault),
     /// There is no memory for them.
     Memory,
+}
+
+impl From<GroupIdFault> for GroupByFault {
+    ghost from_gives = { λ e r. r ≡ Id e };
+
+    fn from(fault: GroupIdFault) -> GroupByFault {
+        GroupByFault::Id(fault)
+    }
+}
+
+impl From<AllocError> for GroupByFault {
+    ghost from_gives = { λ _ r. r ≡ Memory };
+
+    fn from(_: AllocError) -> GroupByFault {
+        GroupByFault::Memory
+    }
 }
 
 /// The greatest ordinal among the sets; 0 if there are none.
@@ -35,32 +51,24 @@ pub fn max_duplicate_ordinal(groups: &[Vec<bool>]) -> usize
 pub fn group_ids(heap: Global, groups: &[Vec<bool>]) -> Result<Vec<i64>, GroupByFault>
     ensures { HasIds (sets_of groups.now) result }
 {
-    if let Some(fault) = sets_fault(groups) {
-        return Err(GroupByFault::Id(fault));
-    }
-    let Ok(mut ids) = Vec::with_capacity(heap, groups.len()) else {
-        return Err(GroupByFault::Memory);
-    };
-    for set in 0..groups.len() {
-        let id = full_id(&groups[set], duplicate_ordinal(groups, set) as u64);
+    check_sets(groups)?;
+    let mut ids = Vec::with_capacity(heap, groups.len())?;
+    for (set, marks) in groups.iter().enumerate() {
+        let id = full_id(marks, duplicate_ordinal(groups, set) as u64);
         ids.push_reserved(id.cast_signed());
     }
     Ok(ids)
 }
 
-/// Why one of the sets has no id: the first that has none.
-fn sets_fault(groups: &[Vec<bool>]) -> Option<GroupIdFault>
-    ensures { option_map group_id_refusal result ≡ sets_fault (sets_of groups.now) }
+/// Whether each of the sets has an id.
+fn check_sets(groups: &[Vec<bool>]) -> Result<(), GroupIdFault>
+    ensures { refusal_of result ≡ sets_fault (sets_of groups.now) }
 {
-    let greatest = max_duplicate_ordinal(groups);
-    for set in 0..groups.len() {
-        let ordinal = duplicate_ordinal(groups, set);
-        let fault = id_fault(&groups[set], ordinal as u64, greatest as u64);
-        if fault.is_some() {
-            return fault;
-        }
+    let greatest = max_duplicate_ordinal(groups) as u64;
+    for (set, marks) in groups.iter().enumerate() {
+        check_id(marks, duplicate_ordinal(groups, set) as u64, greatest)?;
     }
-    None
+    Ok(())
 }
 
 /// How many earlier sets equal the set.
@@ -68,5 +76,5 @@ fn duplicate_ordinal(groups: &[Vec<bool>], set: usize) -> usize
     requires { set < length groups.now }
     ensures { result ≡ ordinal_of (sets_of groups.now) set }
 {
-    count_equal(&groups[0..set], &groups[set])
+    count_equal(&groups[..set], &groups[set])
 }

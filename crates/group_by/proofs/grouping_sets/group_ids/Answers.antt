@@ -9,7 +9,7 @@ use Rattle.group_by.proofs.grouping_sets.group_ids.Goals as goal
 pub full_id-id-requires : goal.full_id-id-requires
 full_id-id-requires c =
     id_small c.args.groups.now c.loop-set.set c.duplicate_ordinal.result c.index-groups-set.result c.deref.result.now c.loop-set-test.true c.index-groups-set.is c.deref.ensures.value c.duplicate_ordinal.ensures
-    (omega arith) (sym c.in_default.ensures)
+    (omega arith) (sym c.in_ok-check_sets.ensures)
 
 pub loop-set-preserved : goal.loop-set-preserved
 loop-set-preserved c =
@@ -25,7 +25,7 @@ returns c =
     let groups = c.args.groups.now in
     let n = length-map groups vec_items in
     let all : c.loop-set.set ≡ length (sets_of groups) = omega arith in (
-      sym c.in_default.ensures,
+      sym c.in_ok-check_sets.ensures,
       c.loop-set.invariant.0 ∙ ap (λ (k : ℕ). map (id_at (sets_of groups)) (range_with_len 0 k)) all,
-      ids-distinct (sets_of groups) (omega arith) (sym c.in_default.ensures),
+      ids-distinct (sets_of groups) (omega arith) (sym c.in_ok-check_sets.ensures),
     )
