@@ -16,6 +16,7 @@ use Rattle.cells.proofs.Alike.{cells_decide}
 use Rattle.order.specs.Runs.{sort_key, sort_keys, all_same, last_run, LastRun}
 use Rattle.order.proofs.SortKeys.{get_or-sort_keys, length-sort_keys}
 
+-- the last run begins behind the first key, so it is that of the others too
 module _ (k : List CellOf) (ks : List (List CellOf)) (s : ℕ) (run : LastRun (k ∷ ks) (suc s)) where
   before_differs : get_or (k ∷ ks) s [] ≢ get_or ks s []
   before_differs e = let i : suc s - 1 ≡ s = omega arith in run.begins (omega arith) (ap (λ (n : ℕ). get_or (k ∷ ks) n []) i ∙ e)
@@ -35,6 +36,7 @@ module _ (k : List CellOf) (ks : List (List CellOf)) (s : ℕ) (run : LastRun (k
       let all = (Decides-by_and (same_key k) (λ x. k ≡ x) (all_same k) (key_decides k) refl (λ _ _. refl) (k ∷ ks)).0 (and_from _ _ ((key_decides k k).1 refl) e) in
       before_differs (sym (All-get_or (λ x. k ≡ x) (k ∷ ks) s [] (omega (arith, run.inside)) all) ∙ All-get_or (λ x. k ≡ x) (k ∷ ks) (suc s) [] (omega (arith, run.inside)) all))
 
+-- a list has one last run, and `last_run` finds it
 pub last_run-at : (ks : List (List CellOf)) (s : ℕ) → LastRun ks s → s ≡ last_run ks
 last_run-at [] s run = absurd (omega (arith, run.inside))
 last_run-at (k ∷ ks) zero run =
@@ -72,9 +74,11 @@ module _ (ps : List ℕ) (keys : List Key) (s : ℕ) (last : Key) (some : 0 < le
   pub run_from_back : LastRun ks s × (key_cells last ≡ get_or ks s [])
   run_from_back =
       let n = length-sort_keys ps keys in
-      let here = alike s (omega arith) inside in
-      (record {
-        inside = omega (arith, n, inside);
-        equal = λ i p q. alike i p (omega (arith, n)) ∙ sym here;
-        begins = λ p e. unlike p (e ∙ here);
-      }, sym here)
+      let here = alike s (omega arith) inside in (
+        record {
+          inside = omega (arith, n, inside);
+          equal = λ i p q. alike i p (omega (arith, n)) ∙ sym here;
+          begins = λ p e. unlike p (e ∙ here);
+        },
+        sym here,
+      )

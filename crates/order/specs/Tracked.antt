@@ -1,5 +1,5 @@
 -- What the orderings of the code stand for. Assumes nothing.
-use Rattle.std.specs.Prelude.{ℕ, true, false, List, Some, None, Option, vec_items}
+use Rattle.std.specs.Prelude.{true, false, List, Some, None, Option, vec_items}
 use Rattle.cells.specs.Rows.{CellOf}
 use Rattle.cells.specs.Keys.{key_cells}
 use Rattle.order.specs.declared.full.GroupOrderingFull.{GroupOrderingFull}

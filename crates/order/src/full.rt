@@ -52,11 +52,7 @@ impl GroupOrderingFull {
     pub fn new_groups(&mut self, total_num_groups: usize)
         ensures { (keys : List (List CellOf)) (places : List ℕ) → full_order self.new ≡ opened (full_order self.old) keys places total_num_groups }
     {
-        if !matches!(self.progress, Progress::Complete) {
-            self.progress = Progress::InProgress {
-                current: total_num_groups.saturating_sub(1),
-                sort_key: (),
-            };
-        }
+        self.progress
+            .begin_run(total_num_groups.saturating_sub(1), ())
     }
 }

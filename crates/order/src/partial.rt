@@ -58,6 +58,7 @@ impl GroupOrderingPartial {
         self.progress.input_done()
     }
 
+    /// The cells of a key at the sort positions.
     #[tactic(auto, using(crate::proofs::SortKeys::sort_key_more))]
     fn sort_key(&self, key: &Key) -> Key
         ensures { key_cells result ≡ sort_key self.now.order_indices.items (key_cells key.now) }
@@ -82,6 +83,7 @@ impl GroupOrderingPartial {
     }
 
     /// Whether the run is the whole batch and goes on with the run that was counted last.
+    #[tactic(auto, using(cells::proofs::Same::key_decides))]
     fn goes_on(&self, run: &Run) -> bool
         ensures { result ≡ (run.now.start == 0 && is_counted (partial_order self.now).counted (key_cells run.now.sort_key)) }
     {
@@ -95,17 +97,12 @@ impl GroupOrderingPartial {
     pub fn new_groups(&mut self, keys: &[Key], places: &[usize])
         ensures { (total : ℕ) → partial_order self.new ≡ opened (partial_order self.old) (map key_cells keys.now) places.now total }
     {
-        if let Progress::Complete = self.progress {
-            return;
-        }
         let Some(run) = self.last_run(keys) else {
             return;
         };
         if !self.goes_on(&run) {
-            self.progress = Progress::InProgress {
-                current: places.get(run.start).copied().unwrap_or(0),
-                sort_key: run.sort_key,
-            };
+            let current = places.get(run.start).copied().unwrap_or(0);
+            self.progress.begin_run(current, run.sort_key);
         }
     }
 }

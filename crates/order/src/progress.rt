@@ -2,9 +2,9 @@
 //!
 //! Ported from datafusion-physical-plan 55.0.0, src/aggregates/order/full.rs and partial.rs, and changed.
 
-ghost use Rattle.std.specs.Prelude.{◌≡◌, ◌≢◌, Option, List};
+ghost use Rattle.std.specs.Prelude.{◌≡◌, ◌≢◌, Option, List, cond};
 ghost use Rattle.cells.specs.Rows.{CellOf};
-ghost use Rattle.order.specs.Orders.{Mode, linear, emit_to, removed, done};
+ghost use Rattle.order.specs.Orders.{Mode, linear, marked, emit_to, removed, done};
 ghost use Rattle.order.specs.Tracked.{progress_order};
 
 use cells::EmitTo;
@@ -51,5 +51,14 @@ impl<K: Copy> Progress<K> {
         ensures { (m : Mode) (key : K → Option (List CellOf)) → m ≢ linear → progress_order m key self.new ≡ done (progress_order m key self.old) }
     {
         *self = Progress::Complete;
+    }
+
+    /// A run begins at the group `current`; at the input's end nothing changes.
+    pub(crate) fn begin_run(&mut self, current: usize, sort_key: K)
+        ensures { (m : Mode) (key : K → Option (List CellOf)) → let o = progress_order m key self.old in progress_order m key self.new ≡ cond o.ended o (marked o current (key sort_key)) }
+    {
+        if !matches!(self, Progress::Complete) {
+            *self = Progress::InProgress { current, sort_key };
+        }
     }
 }
