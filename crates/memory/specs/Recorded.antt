@@ -19,6 +19,6 @@ counted i = cond (nat_le 64 i) i (i + 1)
 abbrev pub asked : Recording → Recording
 asked s = record { word = s.word; growths = counted s.growths }
 
--- the next answer is that of the word
+-- a growth is answered by the word, and counted; what that does to the reservation says `RuledAsks`
 abbrev pub recorded_asks : Recording → ℕ → Bool → Recording → Type 0
 recorded_asks s n r t = (r ≡ grants s.word s.growths) × (t ≡ asked s)
