@@ -1,12 +1,12 @@
 -- A reservation with a limit: which growths it grants. Assumes nothing.
-use Rattle.std.specs.Prelude.{◌≡◌, Bool, true, cond, ◌||◌, ℕ, nat_le}
-use Rattle.memory.specs.declared.bounded.BoundedReservation.{BoundedReservation}
+use Rattle.std.specs.Prelude.{◌≡◌, Bool, ℕ, nat_le}
+use Rattle.memory.specs.declared.bounded.Limit.{Limit}
+use Rattle.memory.specs.declared.ruled.RuledReservation.{RuledReservation}
+use Rattle.memory.specs.Ruled.{ruled_new}
 
-abbrev pub bounded_new : ℕ → BoundedReservation
-bounded_new limit = record { limit = limit; size = 0; last_answer = true }
+abbrev pub bounded_new : ℕ → RuledReservation Limit
+bounded_new limit = ruled_new (record { limit = limit })
 
--- what is no growth is granted, and a growth up to the limit
-abbrev pub bounded_asks : BoundedReservation → ℕ → Bool → BoundedReservation → Type 0
-bounded_asks s n r t =
-    (r ≡ (nat_le n s.size || nat_le n s.limit))
-    × (t ≡ record { limit = s.limit; size = cond r n s.size; last_answer = r })
+-- a growth up to the limit is granted; what that does to the reservation says `RuledAsks`
+abbrev pub bounded_asks : Limit → ℕ → Bool → Limit → Type 0
+bounded_asks s n r t = (r ≡ nat_le n s.limit) × (t ≡ s)

@@ -1,4 +1,5 @@
 pub mod Resizes
+pub mod Ruled
 pub mod Bounded
 pub mod Recorded
 pub mod Peaks

@@ -2,16 +2,16 @@
 
 ghost use Rattle.std.specs.Prelude.{◌≡◌};
 ghost use Rattle.memory.specs.Bounded.{bounded_new, bounded_asks};
-ghost use Rattle.std.proofs.Common.{rules};
 
-use crate::reservation::MemoryReservation;
+use crate::ruled::{GrowthRule, RuledReservation};
 
 /// Grows up to its limit.
+pub type BoundedReservation = RuledReservation<Limit>;
+
+/// The most bytes that are granted.
 #[derive(Debug, Drop)]
-pub struct BoundedReservation {
+pub struct Limit {
     limit: usize,
-    size: usize,
-    last_answer: bool,
 }
 
 impl BoundedReservation {
@@ -19,37 +19,14 @@ impl BoundedReservation {
     pub fn new(limit: usize) -> BoundedReservation
         ensures { result ≡ bounded_new limit }
     {
-        BoundedReservation {
-            limit,
-            size: 0,
-            last_answer: true,
-        }
+        RuledReservation::with_rule(Limit { limit })
     }
 }
 
-impl MemoryReservation for BoundedReservation {
-    ghost bytes = { λ s. s.size };
-
-    ghost granted = { λ s. s.last_answer };
-
+impl GrowthRule for Limit {
     ghost asks = { bounded_asks };
 
-    ghost lawful = { Prim.search rules };
-
-    fn try_resize(&mut self, capacity: usize) -> bool {
-        let granted = capacity <= self.size || capacity <= self.limit;
-        if granted {
-            self.size = capacity;
-        }
-        self.last_answer = granted;
-        granted
-    }
-
-    fn size(&self) -> usize {
-        self.size
-    }
-
-    fn last_answer(&self) -> bool {
-        self.last_answer
+    fn grant(&mut self, capacity: usize) -> bool {
+        capacity <= self.limit
     }
 }

@@ -9,6 +9,7 @@ mod bounded;
 mod peak;
 mod recorded;
 mod reservation;
+mod ruled;
 
 pub use bounded::BoundedReservation;
 pub use peak::PeakReservation;

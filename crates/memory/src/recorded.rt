@@ -1,21 +1,21 @@
 //! A reservation whose answers were written down before.
 
 ghost use Rattle.std.specs.Prelude.{◌≡◌};
-ghost use Rattle.memory.specs.Recorded.{recorded_new, recorded_asks, grants, asked};
-ghost use Rattle.std.proofs.Common.{rules};
+ghost use Rattle.memory.specs.Recorded.{recorded_new, recorded_asks};
 
-use crate::reservation::MemoryReservation;
+use crate::ruled::{GrowthRule, RuledReservation};
 
 /// Answers the growths by the bits of a word, the lowest first, where 1 grants.
 ///
 /// It grants the growths after the 64th, and whatever is no growth.
+pub type RecordedReservation = RuledReservation<Recording>;
+
+/// The answers to the growths.
 #[derive(Debug, Drop)]
-pub struct RecordedReservation {
+pub struct Recording {
     word: u64,
     /// How many growths were asked for, up to 64.
     growths: u32,
-    size: usize,
-    last_answer: bool,
 }
 
 impl RecordedReservation {
@@ -23,50 +23,18 @@ impl RecordedReservation {
     pub fn new(word: u64) -> RecordedReservation
         ensures { result ≡ recorded_new word }
     {
-        RecordedReservation {
-            word,
-            growths: 0,
-            size: 0,
-            last_answer: true,
-        }
-    }
-
-    fn next_growth(&mut self) -> bool
-        ensures answer { result ≡ grants self.old.word self.old.growths }
-        ensures after { self.new ≡ asked self.old }
-    {
-        if self.growths >= 64 {
-            return true;
-        }
-        let granted = (self.word >> self.growths) % 2 == 1;
-        self.growths += 1;
-        granted
+        RuledReservation::with_rule(Recording { word, growths: 0 })
     }
 }
 
-impl MemoryReservation for RecordedReservation {
-    ghost bytes = { λ s. s.size };
-
-    ghost granted = { λ s. s.last_answer };
-
+impl GrowthRule for Recording {
     ghost asks = { recorded_asks };
 
-    ghost lawful = { Prim.search rules };
-
-    fn try_resize(&mut self, capacity: usize) -> bool {
-        let granted = capacity <= self.size || self.next_growth();
-        if granted {
-            self.size = capacity;
-        }
-        self.last_answer = granted;
-        granted
-    }
-
-    fn size(&self) -> usize {
-        self.size
-    }
-
-    fn last_answer(&self) -> bool {
-        self.last_answer
+    fn grant(&mut self, _capacity: usize) -> bool {
+        let Some(answers) = self.word.checked_shr(self.growths) else {
+            return true;
+        };
+        self.growths += 1;
+        answers % 2 == 1
     }
 }

@@ -1,50 +1,38 @@
--- The last run of a batch is counted.
-use Rattle.std.proofs.Common.{◌≡◌, ℕ, ◌<◌, Bool, true, false, cond, ◌&&◌, eqb, List, [], ◌∷◌, length, get_or, Some, sym, refl, ap, ◌∙◌, arith}
+-- The last run of a batch with rows is counted, unless it goes on with the run counted before.
+use Rattle.std.proofs.Common.{◌≡◌, ℕ, cond, List, [], ◌∷◌, get_or, Some, sym, refl, ap, ◌∙◌, arith, vec_items}
+use Rattle.cells.specs.declared.key.Key.{Key}
+use Rattle.cells.specs.Keys.{key_cells}
 use Rattle.cells.specs.Rows.{CellOf}
-use Rattle.order.specs.declared.partial.State.{State}
-use Rattle.order.specs.declared.partial.State.TheVariants.{Start, InProgress, Complete}
-use Rattle.order.specs.Runs.{sort_keys, last_run}
-use Rattle.order.specs.Orders.{Order, partially, marked, is_counted, opened, run_opened, run_counted}
-use Rattle.order.specs.Tracked.{partial_state}
+use Rattle.order.specs.declared.partial.GroupOrderingPartial.{GroupOrderingPartial}
+use Rattle.order.specs.declared.partial.Run.{Run}
+use Rattle.order.specs.declared.progress.Progress.{Progress}
+use Rattle.order.specs.declared.progress.Progress.TheVariants.{Start, InProgress, Complete}
+use Rattle.order.specs.Runs.{sort_keys, LastRun}
+use Rattle.order.specs.Orders.{Order, partially, opened, run_opened, run_counted}
+use Rattle.order.specs.Tracked.{progress_order, partial_order}
+use Rattle.order.proofs.LastRuns.{last_run-at}
 
-module _ (ps : List ℕ) (keys : List (List CellOf)) (places : List ℕ) (total : ℕ) (at : ℕ) (key : List CellOf) (some : 0 < length keys)
-    (is : at ≡ last_run (sort_keys ps keys)) (reads : key ≡ get_or (sort_keys ps keys) at []) where
-  counted_in : (o : Order) → run_opened o (sort_keys ps keys) places ≡ run_counted o at key places
-  counted_in o = go keys some is reads
-    where
-      go : (ks : List (List CellOf)) → 0 < length ks → at ≡ last_run (sort_keys ps ks) → key ≡ get_or (sort_keys ps ks) at [] → run_opened o (sort_keys ps ks) places ≡ run_counted o at key places
-      go [] l e r = absurd (omega arith)
-      go (k ∷ ks) l e r =
-          ap (λ (x : List CellOf). run_counted o (last_run (sort_keys ps (k ∷ ks))) x places) (sym (r ∙ ap (λ (n : ℕ). get_or (sort_keys ps (k ∷ ks)) n []) e))
-          ∙ ap (λ (n : ℕ). run_counted o n key places) (sym e)
+run_opened-at : (o : Order) (ks : List (List CellOf)) (places : List ℕ) (at : ℕ) → LastRun ks at → run_opened o ks places ≡ run_counted o at (get_or ks at []) places
+run_opened-at o [] places at run = absurd (omega (arith, run.inside))
+run_opened-at o (k ∷ ks) places at run = ap (λ (n : ℕ). run_counted o n (get_or (k ∷ ks) n []) places) (sym (last_run-at (k ∷ ks) at run))
 
-  opened-is : (s : State) → (s ≡ Complete → ⊥) → opened (partial_state ps s) keys places total ≡ run_counted (partial_state ps s) at key places
-  opened-is Start ne = counted_in (partial_state ps Start)
-  opened-is (InProgress p k) ne = counted_in (partial_state ps (InProgress p k))
-  opened-is Complete ne = absurd (ne refl)
+-- `opened` computes at each state, and the run may be found in any way
+module _ (o : GroupOrderingPartial) (keys : List (List CellOf)) (places : List ℕ) (total : ℕ) (run : Run)
+    (last : LastRun (sort_keys (vec_items o.order_indices) keys) run.start × (key_cells run.sort_key ≡ get_or (sort_keys (vec_items o.order_indices) keys) run.start [])) where
+  abbrev state : Progress Key → Order
+  state p = progress_order (partially (vec_items o.order_indices)) (λ key. Some (key_cells key)) p
 
-  -- the run goes on
-  pub opened-same : (s : State) → (s ≡ Complete → ⊥) → true ≡ (eqb at 0 && is_counted (partial_state ps s).counted key)
-      → partial_state ps s ≡ opened (partial_state ps s) keys places total
-  opened-same s ne goes =
-      sym (opened-is s ne ∙ ap (λ (b : Bool). cond b (partial_state ps s) (marked (partial_state ps s) (get_or places at 0) (Some key))) (sym goes))
+  abbrev counted : Order → Order
+  counted s = run_counted s run.start (key_cells run.sort_key) places
 
-  -- the run is another
-  pub opened-anew : (s : State) → (s ≡ Complete → ⊥) → false ≡ (eqb at 0 && is_counted (partial_state ps s).counted key)
-      → marked (partial_state ps s) (get_or places at 0) (Some key) ≡ opened (partial_state ps s) keys places total
-  opened-anew s ne goes =
-      sym (opened-is s ne ∙ ap (λ (b : Bool). cond b (partial_state ps s) (marked (partial_state ps s) (get_or places at 0) (Some key))) (sym goes))
+  opened_last : (s : Order) → run_opened s (sort_keys (vec_items o.order_indices) keys) places ≡ counted s
+  opened_last s =
+      run_opened-at s (sort_keys (vec_items o.order_indices) keys) places run.start last.0 ∙ ap (λ (k : List CellOf). run_counted s run.start k places) (sym last.1)
 
-  -- the new state
-  pub state_anew : (s : State) → (s ≡ Complete → ⊥) → (place : ℕ) → place ≡ get_or places at 0
-      → record { mode = partially ps; mark = place; counted = Some key; ended = false } ≡ marked (partial_state ps s) (get_or places at 0) (Some key)
-  state_anew Start ne place e = ap (λ (p : ℕ). marked (partial_state ps Start) p (Some key)) e
-  state_anew (InProgress p k) ne place e = ap (λ (p : ℕ). marked (partial_state ps (InProgress p k)) p (Some key)) e
-  state_anew Complete ne place e = absurd (ne refl)
+  counted_in : (p : Progress Key) → opened (state p) keys places total ≡ cond (state p).ended (state p) (counted (state p))
+  counted_in Start = opened_last (state Start)
+  counted_in (InProgress p k) = opened_last (state (InProgress p k))
+  counted_in Complete = refl
 
-pub opened-none : (ps : List ℕ) (s : State) (keys : List (List CellOf)) (places : List ℕ) (total : ℕ) → length keys ≡ 0
-    → partial_state ps s ≡ opened (partial_state ps s) keys places total
-opened-none ps Start [] places total e = refl
-opened-none ps (InProgress p k) [] places total e = refl
-opened-none ps Complete [] places total e = refl
-opened-none ps s (k ∷ ks) places total e = absurd (omega arith)
+  pub counted_last : let s = partial_order o in opened s keys places total ≡ cond s.ended s (counted s)
+  counted_last = counted_in o.progress

@@ -1,33 +1,28 @@
 -- What the orderings of the code stand for. Assumes nothing.
-use Rattle.std.specs.Prelude.{ℕ, true, false, List, Some, None, vec_items}
+use Rattle.std.specs.Prelude.{true, false, List, Some, None, Option, vec_items}
+use Rattle.cells.specs.Rows.{CellOf}
 use Rattle.cells.specs.Keys.{key_cells}
 use Rattle.order.specs.declared.full.GroupOrderingFull.{GroupOrderingFull}
-use Rattle.order.specs.declared.full.State as full
-use Rattle.order.specs.declared.full.State.TheVariants as in-full
 use Rattle.order.specs.declared.partial.GroupOrderingPartial.{GroupOrderingPartial}
-use Rattle.order.specs.declared.partial.State as partial
-use Rattle.order.specs.declared.partial.State.TheVariants as in-partial
+use Rattle.order.specs.declared.progress.Progress.{Progress}
+use Rattle.order.specs.declared.progress.Progress.TheVariants.{Start, InProgress, Complete}
 use Rattle.order.specs.declared.group_ordering.GroupOrdering.{GroupOrdering}
 use Rattle.order.specs.declared.group_ordering.GroupOrdering.TheVariants as ordering
 use Rattle.order.specs.declared.ordering.InputOrderMode.{InputOrderMode}
 use Rattle.order.specs.declared.ordering.InputOrderMode.TheVariants.{Linear, PartiallySorted, Sorted}
 use Rattle.order.specs.Orders.{Mode, linear, sorted, partially, Order, start}
 
-abbrev pub full_state : full.State → Order
-full_state in-full.Start = start sorted
-full_state (in-full.InProgress current) = record { mode = sorted; mark = current; counted = None; ended = false }
-full_state in-full.Complete = record { mode = sorted; mark = 0; counted = None; ended = true }
+-- what an input's progress tells of an order, where `counted` gives the cells of a key
+abbrev pub progress_order : {K : Type 0} → Mode → (K → Option (List CellOf)) → Progress K → Order
+progress_order m counted Start = start m
+progress_order m counted (InProgress place key) = record { mode = m; mark = place; counted = counted key; ended = false }
+progress_order m counted Complete = record { mode = m; mark = 0; counted = None; ended = true }
 
 abbrev pub full_order : GroupOrderingFull → Order
-full_order o = full_state o.state
-
-abbrev pub partial_state : List ℕ → partial.State → Order
-partial_state ps in-partial.Start = start (partially ps)
-partial_state ps (in-partial.InProgress place key) = record { mode = partially ps; mark = place; counted = Some (key_cells key); ended = false }
-partial_state ps in-partial.Complete = record { mode = partially ps; mark = 0; counted = None; ended = true }
+full_order o = progress_order sorted (λ _. None) o.progress
 
 abbrev pub partial_order : GroupOrderingPartial → Order
-partial_order o = partial_state (vec_items o.order_indices) o.state
+partial_order o = progress_order (partially (vec_items o.order_indices)) (λ key. Some (key_cells key)) o.progress
 
 abbrev pub order_of : GroupOrdering → Order
 order_of ordering.None = start linear

@@ -61,10 +61,9 @@ impl GroupOrdering {
         if let GroupOrdering::None = self {
             return Some(EmitTo::First(n));
         }
-        match self.emit_to() {
-            None => None,
-            Some(EmitTo::First(finished)) => Some(EmitTo::First(n.min(finished))),
-            Some(EmitTo::All) => Some(EmitTo::First(n)),
+        match self.emit_to()? {
+            EmitTo::First(finished) => Some(EmitTo::First(n.min(finished))),
+            EmitTo::All => Some(EmitTo::First(n)),
         }
     }
 

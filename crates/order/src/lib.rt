@@ -8,6 +8,7 @@ mod full;
 mod group_ordering;
 mod ordering;
 mod partial;
+mod progress;
 mod skip_partial;
 
 pub use full::GroupOrderingFull;

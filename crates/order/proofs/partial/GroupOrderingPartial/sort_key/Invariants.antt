@@ -4,5 +4,5 @@ use Rattle.cells.specs.Keys.{key_cells}
 use Rattle.order.specs.Runs.{sort_key}
 use Rattle.order.proofs.partial.GroupOrderingPartial.sort_key.Given as goal
 
-abbrev pub invariant-loop-index : goal.invariant-loop-index
-invariant-loop-index l = key_cells l.sort_key ≡ sort_key (take l.index-index l.index-items) (key_cells l.key)
+abbrev pub invariant-loop-position : goal.invariant-loop-position
+invariant-loop-position l = key_cells l.sort_key ≡ sort_key (take l.position-index l.position-items) (key_cells l.key)
