@@ -1,7 +1,5 @@
 -- The last run of a batch with rows is counted, unless it goes on with the run counted before.
 use Rattle.std.proofs.Common.{◌≡◌, ℕ, cond, List, [], ◌∷◌, get_or, Some, sym, refl, ap, ◌∙◌, arith, vec_items}
-use Rattle.cells.specs.declared.key.Key.{Key}
-use Rattle.cells.specs.Keys.{key_cells}
 use Rattle.cells.specs.Rows.{CellOf}
 use Rattle.order.specs.declared.partial.GroupOrderingPartial.{GroupOrderingPartial}
 use Rattle.order.specs.declared.partial.Run.{Run}
@@ -18,18 +16,18 @@ run_opened-at o (k ∷ ks) places at run = ap (λ (n : ℕ). run_counted o n (ge
 
 -- `opened` computes at each state, and the run may be found in any way
 module _ (o : GroupOrderingPartial) (keys : List (List CellOf)) (places : List ℕ) (total : ℕ) (run : Run)
-    (last : LastRun (sort_keys (vec_items o.order_indices) keys) run.start × (key_cells run.sort_key ≡ get_or (sort_keys (vec_items o.order_indices) keys) run.start [])) where
-  abbrev state : Progress Key → Order
-  state p = progress_order (partially (vec_items o.order_indices)) (λ key. Some (key_cells key)) p
+    (last : LastRun (sort_keys (vec_items o.order_indices) keys) run.start × (run.sort_key ≡ get_or (sort_keys (vec_items o.order_indices) keys) run.start [])) where
+  abbrev state : Progress (List CellOf) → Order
+  state p = progress_order (partially (vec_items o.order_indices)) Some p
 
   abbrev counted : Order → Order
-  counted s = run_counted s run.start (key_cells run.sort_key) places
+  counted s = run_counted s run.start run.sort_key places
 
   opened_last : (s : Order) → run_opened s (sort_keys (vec_items o.order_indices) keys) places ≡ counted s
   opened_last s =
       run_opened-at s (sort_keys (vec_items o.order_indices) keys) places run.start last.0 ∙ ap (λ (k : List CellOf). run_counted s run.start k places) (sym last.1)
 
-  counted_in : (p : Progress Key) → opened (state p) keys places total ≡ cond (state p).ended (state p) (counted (state p))
+  counted_in : (p : Progress (List CellOf)) → opened (state p) keys places total ≡ cond (state p).ended (state p) (counted (state p))
   counted_in Start = opened_last (state Start)
   counted_in (InProgress p k) = opened_last (state (InProgress p k))
   counted_in Complete = refl

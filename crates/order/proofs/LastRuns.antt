@@ -1,5 +1,5 @@
 -- The last run of equal sort keys begins where `last_run` says, and a search from the back finds it.
-use Rattle.std.proofs.Common.{◌≡◌, ◌≢◌, Bool, true, false, not, true≢false, map, ℕ, zero, suc, ◌-◌, ◌<◌, ◌≤◌, List, [], ◌∷◌, length, get_or, sym, refl, ap, ◌∙◌, arith, inl, inr}
+use Rattle.std.proofs.Common.{◌≡◌, ◌≢◌, Bool, true, false, not, true≢false, ℕ, zero, suc, ◌-◌, ◌<◌, ◌≤◌, List, [], ◌∷◌, length, get_or, sym, refl, ap, ◌∙◌, arith, inl, inr}
 use Rattle.std.specs.Option.{option_eq}
 use Rattle.std.specs.Ordering.{int_eq}
 use Rattle.std.specs.Cmp.Lexicographic.{pointwise}
@@ -7,8 +7,6 @@ use Rattle.std.proofs.lemmas.Bool.{not-false, not_from_true, cond-true, cond-fal
 use Rattle.std.proofs.lemmas.Bool.Decides.{Decides-by_and}
 use Rattle.std.proofs.lemmas.List.Elements.{All-get_or}
 use Rattle.std.proofs.lemmas.List.Recursion.{and_from_places}
-use Rattle.cells.specs.declared.key.Key.{Key}
-use Rattle.cells.specs.Keys.{key_cells}
 use Rattle.cells.specs.Rows.{CellOf}
 use Rattle.cells.specs.Same.{same_key}
 use Rattle.cells.proofs.Same.{key_decides}
@@ -49,17 +47,17 @@ abbrev pub differs : List CellOf → List CellOf → Bool
 differs xs ys = not (pointwise (option_eq int_eq) xs ys)
 
 -- `last` has the sort key of the last row, and s is the place behind the last row with another
-module _ (ps : List ℕ) (keys : List Key) (s : ℕ) (last : Key) (some : 0 < length keys) (within : s ≤ length keys)
-    (is_last : key_cells last ≡ sort_key ps (key_cells (get_or keys (length keys - 1) last)))
-    (same : (i : ℕ) → s ≤ i → i < length keys → differs (sort_key ps (key_cells (get_or keys i last))) (key_cells last) ≡ false)
-    (other : 0 < s → differs (sort_key ps (key_cells (get_or keys (s - 1) last))) (key_cells last) ≡ true) where
+module _ (ps : List ℕ) (keys : List (List CellOf)) (s : ℕ) (last : List CellOf) (some : 0 < length keys) (within : s ≤ length keys)
+    (is_last : last ≡ sort_key ps (get_or keys (length keys - 1) last))
+    (same : (i : ℕ) → s ≤ i → i < length keys → differs (sort_key ps (get_or keys i last)) last ≡ false)
+    (other : 0 < s → differs (sort_key ps (get_or keys (s - 1) last)) last ≡ true) where
   abbrev ks : List (List CellOf)
-  ks = sort_keys ps (map key_cells keys)
+  ks = sort_keys ps keys
 
-  alike : (i : ℕ) → s ≤ i → i < length keys → get_or ks i [] ≡ key_cells last
+  alike : (i : ℕ) → s ≤ i → i < length keys → get_or ks i [] ≡ last
   alike i p l = get_or-sort_keys ps keys i last l ∙ (cells_decide _ _).0 (not-false _ (same i p l))
 
-  unlike : 0 < s → get_or ks (s - 1) [] ≢ key_cells last
+  unlike : 0 < s → get_or ks (s - 1) [] ≢ last
   unlike p e =
       true≢false (sym (other p) ∙ not_from_true _ ((cells_decide _ _).1 (sym (get_or-sort_keys ps keys (s - 1) last (omega (arith, within))) ∙ e)))
 
@@ -71,7 +69,7 @@ module _ (ps : List ℕ) (keys : List Key) (s : ℕ) (last : Key) (some : 0 < le
         absurd (unlike (omega (arith, some)) (ap (λ (n : ℕ). get_or ks n []) (sym e) ∙ get_or-sort_keys ps keys (length keys - 1) last (omega (arith, some)) ∙ sym is_last))
   ]
 
-  pub run_from_back : LastRun ks s × (key_cells last ≡ get_or ks s [])
+  pub run_from_back : LastRun ks s × (last ≡ get_or ks s [])
   run_from_back =
       let n = length-sort_keys ps keys in
       let here = alike s (omega arith) inside in (

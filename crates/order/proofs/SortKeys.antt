@@ -1,8 +1,6 @@
 -- A sort key grows cell by cell, and stands at its row.
-use Rattle.std.proofs.Common.{◌≡◌, ℕ, zero, suc, ◌+◌, ◌<◌, List, [], ◌∷◌, ◌++◌, map, length, get_or, take, None, sym, refl, ap, ◌∙◌, arith}
+use Rattle.std.proofs.Common.{◌≡◌, ℕ, zero, suc, ◌+◌, ◌<◌, List, [], ◌∷◌, ◌++◌, map, length, get_or, take, None, sym, refl, ap, ◌∙◌}
 use Rattle.std.proofs.lemmas.List.{map_more, get_or-map, length-map}
-use Rattle.cells.specs.declared.key.Key.{Key}
-use Rattle.cells.specs.Keys.{key_cells}
 use Rattle.cells.specs.Rows.{CellOf}
 use Rattle.order.specs.Runs.{sort_key, sort_keys}
 
@@ -16,11 +14,10 @@ pub sort_key_more : (positions : List ℕ) (key : List CellOf) (i : ℕ) → i <
 sort_key_more positions key i l = ap (take 7) (map_more _ positions i 0 l) ∙ sym (take_twice 7 (map _ (take i positions)) _)
 
 -- the sort key of row i
-pub get_or-sort_keys : (positions : List ℕ) (keys : List Key) (i : ℕ) (d : Key) → i < length keys
-    → get_or (sort_keys positions (map key_cells keys)) i [] ≡ sort_key positions (key_cells (get_or keys i d))
+pub get_or-sort_keys : (positions : List ℕ) (keys : List (List CellOf)) (i : ℕ) (d : List CellOf) → i < length keys
+    → get_or (sort_keys positions keys) i [] ≡ sort_key positions (get_or keys i d)
 get_or-sort_keys positions keys i d l =
-    get_or-map (sort_key positions) (map key_cells keys) i [] [] (omega (arith, length-map keys key_cells))
-    ∙ ap (sort_key positions) (get_or-map key_cells keys i d [] l)
+    get_or-map (sort_key positions) keys i d [] l
 
-pub length-sort_keys : (positions : List ℕ) (keys : List Key) → length (sort_keys positions (map key_cells keys)) ≡ length keys
-length-sort_keys positions keys = length-map (map key_cells keys) (sort_key positions) ∙ length-map keys key_cells
+pub length-sort_keys : (positions : List ℕ) (keys : List (List CellOf)) → length (sort_keys positions keys) ≡ length keys
+length-sort_keys positions keys = length-map keys (sort_key positions)

@@ -1,7 +1,6 @@
 -- What the orderings of the code stand for. Assumes nothing.
 use Rattle.std.specs.Prelude.{true, false, List, Some, None, Option, vec_items}
 use Rattle.cells.specs.Rows.{CellOf}
-use Rattle.cells.specs.Keys.{key_cells}
 use Rattle.order.specs.declared.full.GroupOrderingFull.{GroupOrderingFull}
 use Rattle.order.specs.declared.partial.GroupOrderingPartial.{GroupOrderingPartial}
 use Rattle.order.specs.declared.progress.Progress.{Progress}
@@ -22,7 +21,7 @@ abbrev pub full_order : GroupOrderingFull → Order
 full_order o = progress_order sorted (λ _. None) o.progress
 
 abbrev pub partial_order : GroupOrderingPartial → Order
-partial_order o = progress_order (partially (vec_items o.order_indices)) (λ key. Some (key_cells key)) o.progress
+partial_order o = progress_order (partially (vec_items o.order_indices)) Some o.progress
 
 abbrev pub order_of : GroupOrdering → Order
 order_of ordering.None = start linear

@@ -3,7 +3,6 @@
 //! Ported from datafusion-physical-plan 55.0.0, src/aggregates/order/mod.rs, and changed.
 
 ghost use Rattle.std.specs.Prelude.{◌≡◌, map, IfOk};
-ghost use Rattle.cells.specs.Keys.{key_cells};
 ghost use Rattle.order.specs.Orders.{start, opened, emit_to, oom_emit_to, removed, done};
 ghost use Rattle.order.specs.Tracked.{order_of, mode_of};
 
@@ -91,7 +90,7 @@ impl GroupOrdering {
 
     /// A batch has opened groups; its rows have these keys and places, and so many groups are held now.
     pub fn new_groups(&mut self, keys: &[Key], places: &[usize], total_num_groups: usize)
-        ensures { order_of self.new ≡ opened (order_of self.old) (map key_cells keys.now) places.now total_num_groups }
+        ensures { order_of self.new ≡ opened (order_of self.old) keys.now places.now total_num_groups }
     {
         match self {
             GroupOrdering::None => {}

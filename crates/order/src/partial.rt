@@ -3,7 +3,6 @@
 //! Ported from datafusion-physical-plan 55.0.0, src/aggregates/order/partial.rs, and changed.
 
 ghost use Rattle.std.specs.Prelude.{◌≡◌, ℕ, ◌&&◌, [], map, ◌==◌, slice_index_or, MatchOption};
-ghost use Rattle.cells.specs.Keys.{key_cells};
 ghost use Rattle.order.specs.Runs.{sort_key, sort_keys, LastRun};
 ghost use Rattle.order.specs.Orders.{start, partially, opened, is_counted, emit_to, removed, done};
 ghost use Rattle.order.specs.Tracked.{partial_order};
@@ -61,7 +60,7 @@ impl GroupOrderingPartial {
     /// The cells of a key at the sort positions.
     #[tactic(auto, using(crate::proofs::SortKeys::sort_key_more))]
     fn sort_key(&self, key: &Key) -> Key
-        ensures { key_cells result ≡ sort_key self.now.order_indices.items (key_cells key.now) }
+        ensures { result ≡ sort_key self.now.order_indices.items key.now }
     {
         let mut sort_key = Key::new();
         for &position in &self.order_indices {
@@ -72,7 +71,7 @@ impl GroupOrderingPartial {
 
     /// The last run of the batch, if it has rows.
     fn last_run(&self, keys: &[Key]) -> Option<Run>
-        ensures { let ks = sort_keys self.now.order_indices.items (map key_cells keys.now) in MatchOption result (keys.now ≡ []) (λ run. LastRun ks run.start × (key_cells run.sort_key ≡ slice_index_or ks run.start [])) }
+        ensures { let ks = sort_keys self.now.order_indices.items keys.now in MatchOption result (keys.now ≡ []) (λ run. LastRun ks run.start × (run.sort_key ≡ slice_index_or ks run.start [])) }
     {
         let sort_key = self.sort_key(keys.last()?);
         let before = keys.iter().rposition(|key| self.sort_key(key) != sort_key);
@@ -85,7 +84,7 @@ impl GroupOrderingPartial {
     /// Whether the run is the whole batch and goes on with the run that was counted last.
     #[tactic(auto, using(cells::proofs::Same::key_decides))]
     fn goes_on(&self, run: &Run) -> bool
-        ensures { result ≡ (run.now.start == 0 && is_counted (partial_order self.now).counted (key_cells run.now.sort_key)) }
+        ensures { result ≡ (run.now.start == 0 && is_counted (partial_order self.now).counted run.now.sort_key) }
     {
         match self.progress {
             Progress::InProgress { sort_key, .. } => run.start == 0 && sort_key == run.sort_key,
@@ -95,7 +94,7 @@ impl GroupOrderingPartial {
 
     /// A batch has opened groups; its rows have these keys and places.
     pub fn new_groups(&mut self, keys: &[Key], places: &[usize])
-        ensures { (total : ℕ) → partial_order self.new ≡ opened (partial_order self.old) (map key_cells keys.now) places.now total }
+        ensures { (total : ℕ) → partial_order self.new ≡ opened (partial_order self.old) keys.now places.now total }
     {
         let Some(run) = self.last_run(keys) else {
             return;
