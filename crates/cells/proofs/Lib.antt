@@ -3,3 +3,4 @@ pub mod Flags
 pub mod Alike
 pub mod Same
 pub mod Filled
+pub mod Pushing

@@ -1,6 +1,6 @@
 //! A row of cells, as many as a bound allows.
 
-ghost use Rattle.std.specs.Prelude.{◌≡◌, [], ◌∷◌, ◌++◌, take, None, Decides, slice_index_or};
+ghost use Rattle.std.specs.Prelude.{◌≡◌, ◌≤◌, [], ◌∷◌, ◌++◌, length, take, None, Decides, slice_index_or};
 
 use crate::batch::Cell;
 use std::marker::Model;
@@ -68,9 +68,21 @@ impl<const N: usize> CellRow<N> {
         }
     }
 
+    /// The row of these cells, as far as it goes.
+    pub fn from_slice(cells: &[Cell]) -> CellRow<N>
+        ensures { result ≡ take N cells.now }
+    {
+        let mut row = CellRow::new();
+        for cell in cells {
+            row.push(*cell);
+        }
+        row
+    }
+
     /// The cells, in their order.
     pub fn as_slice(&self) -> &[Cell]
-        ensures { result.now ≡ self.now }
+        ensures value { result.now ≡ self.now }
+        ensures bound { length self.now ≤ N }
     {
         let cells = &self.cells[..];
         &cells[..self.len]

@@ -1,18 +1,10 @@
 -- The cells of a key, pushed one by one.
 use Rattle.std.proofs.Common.{◌≡◌, ℕ, zero, suc, ◌+◌, ◌<◌, Bool, false, cond, List, [], ◌∷◌, ◌++◌, length, get_or, take, ℤ, Some, None, sym, refl, ap, ◌∙◌, add-one, arith}
 use Rattle.cells.specs.Rows.{CellOf}
+use Rattle.cells.proofs.Pushing.{pushed}
 use Rattle.group_by.specs.declared.keys.GroupByKeys.{GroupByKeys}
 use Rattle.group_by.specs.Groupings.{masked_cells, id_cells}
 use Rattle.group_by.specs.Keys.{keys_of}
-
-take_again : {X : Type 0} (n : ℕ) (xs ys : List X) → take n (take n xs ++ ys) ≡ take n (xs ++ ys)
-take_again zero xs ys = refl
-take_again (suc n) [] ys = refl
-take_again (suc n) (x ∷ xs) ys = ap (λ zs. x ∷ zs) (take_again n xs ys)
-
--- what is pushed onto a key goes onto all that was pushed before
-pub pushed : (all more key key' : List CellOf) → key ≡ take 7 all → key' ≡ take 7 (key ++ more) → key' ≡ take 7 (all ++ more)
-pushed all more key key' e h = h ∙ ap (λ (k : List CellOf). take 7 (k ++ more)) e ∙ take_again 7 all more
 
 masked_more : (columns : List ℕ) (marks : List Bool) (row : List CellOf) (i : ℕ) → i < length columns
     → masked_cells (take (suc i) columns) marks row
@@ -30,7 +22,7 @@ pub cell_more : (columns : List ℕ) (marks : List Bool) (row : List CellOf) (i 
     → key ≡ take 7 (masked_cells (take i columns) marks row) → key' ≡ take 7 (key ++ cell ∷ [])
     → key' ≡ take 7 (masked_cells (take (i + 1) columns) marks row)
 cell_more columns marks row i m cell key key' l mark is e h =
-    pushed (masked_cells (take i columns) marks row) (cell ∷ []) key key' e h
+    pushed 7 (masked_cells (take i columns) marks row) (cell ∷ []) key key' e h
     ∙ ap (λ (c : CellOf). take 7 (masked_cells (take i columns) marks row ++ c ∷ [])) (is ∙ ap (λ (b : Bool). cond b None (get_or row (get_or columns i 0) None)) mark)
     ∙ ap (take 7) (sym (masked_more columns marks row i l))
     ∙ ap (λ (n : ℕ). take 7 (masked_cells (take n columns) marks row)) (sym (add-one i))
@@ -39,4 +31,4 @@ cell_more columns marks row i m cell key key' l mark is e h =
 pub id_behind : (k : GroupByKeys) (s : ℕ) (id : ℤ) (cells key key' : List CellOf) → id_cells (keys_of k) s ≡ Some id ∷ []
     → key ≡ take 7 cells → key' ≡ take 7 (key ++ Some id ∷ []) → key' ≡ take 7 (cells ++ id_cells (keys_of k) s)
 id_behind k s id cells key key' is e h =
-    pushed cells (Some id ∷ []) key key' e h ∙ ap (λ (last : List CellOf). take 7 (cells ++ last)) (sym is)
+    pushed 7 cells (Some id ∷ []) key key' e h ∙ ap (λ (last : List CellOf). take 7 (cells ++ last)) (sym is)

@@ -3,4 +3,4 @@ use Rattle.cells.proofs.cell_row.CellRowPartialEq.eq.Goals as goal
 
 pub returns-clause-decides : goal.returns-clause-decides
 returns-clause-decides g c =
-    rw (c.eq.ensures, c.as_slice.ensures, c.as_slice-2.ensures) (cells_decide c.args.self.now c.args.other.now)
+    rw (c.eq.ensures, c.as_slice.ensures.value, c.as_slice-2.ensures.value) (cells_decide c.args.self.now c.args.other.now)
