@@ -9,4 +9,5 @@ mod waiting;
 mod waiting_rows;
 
 pub use output_row::{MAX_ROW_CELLS, OutputRow};
+pub use rows::{converted_row, result_row, state_row};
 pub use waiting::{MAX_WAITING_ROWS, Waiting};

@@ -1,14 +1,13 @@
 //! The calls of the rows that wait.
 
-ghost use Rattle.std.specs.Prelude.{◌≡◌, ◌+◌, ◌≤◌, [], ◌∷◌, ◌++◌, map, length, take, drop, IfOk, if◌then◌else◌, nat_lt, slice_set};
+ghost use Rattle.std.specs.Prelude.{◌≡◌, ◌+◌, ◌≤◌, ◌==◌, [], ◌∷◌, ◌++◌, map, length, take, drop, IfOk, if◌then◌else◌, nat_lt};
 ghost use Rattle.cells.specs.Rows.{overlaid};
-ghost use Rattle.output.specs.Rows.{row_cells};
 ghost use Rattle.output.specs.Slices.{value_of, flag_of, padded, flat, put_at};
 ghost use Rattle.output.specs.Waits.{waiting_rows, stored};
 
 use crate::output_row::OutputRow;
 use crate::waiting::{MAX_WAITING_ROWS, Waiting};
-use cells::Cell;
+use cells::{Cell, put};
 use std::alloc::{AllocError, Global};
 
 /// The value and the flag that a cell is written as.
@@ -16,25 +15,13 @@ fn parts(cell: Cell) -> (i64, u8)
     ensures value { result.0 ≡ value_of cell }
     ensures flag { result.1 ≡ flag_of cell }
 {
-    match cell {
-        Some(value) => (value, 1),
-        None => (0, 0),
-    }
-}
-
-/// Writes an item to its place; one past the end is passed over.
-fn put<T: Copy>(slice: &mut [T], place: usize, item: T)
-    ensures { slice.new ≡ slice_set slice.old place item }
-{
-    if place < slice.len() {
-        slice[place] = item;
-    }
+    (cell.unwrap_or(0), u8::from(cell.is_some()))
 }
 
 /// Writes a row's first `width` cells from `start` on.
 fn write_row(row: &OutputRow, start: usize, width: usize, values: &mut [i64], flags: &mut [u8])
-    ensures values { values.new ≡ put_at start (map value_of (padded width (row_cells row.now))) values.old }
-    ensures flags { flags.new ≡ put_at start (map flag_of (padded width (row_cells row.now))) flags.old }
+    ensures values { values.new ≡ put_at start (map value_of (padded width row.now)) values.old }
+    ensures flags { flags.new ≡ put_at start (map flag_of (padded width row.now)) flags.old }
 {
     for column in 0..width {
         let place = start.saturating_add(column);
@@ -46,8 +33,8 @@ fn write_row(row: &OutputRow, start: usize, width: usize, values: &mut [i64], fl
 
 /// Writes the rows, each `width` cells long: cell `c` of row `r` comes to `r * width + c`.
 fn write_rows(rows: &[OutputRow], width: usize, values: &mut [i64], flags: &mut [u8])
-    ensures values { values.new ≡ overlaid (map value_of (flat width (map row_cells rows.now))) values.old }
-    ensures flags { flags.new ≡ overlaid (map flag_of (flat width (map row_cells rows.now))) flags.old }
+    ensures values { values.new ≡ overlaid (map value_of (flat width rows.now)) values.old }
+    ensures flags { flags.new ≡ overlaid (map flag_of (flat width rows.now)) flags.old }
 {
     for (number, row) in rows.iter().enumerate() {
         write_row(row, number.saturating_mul(width), width, values, flags);
@@ -71,6 +58,13 @@ impl Waiting {
         self.rows.len() - self.at
     }
 
+    /// Whether no row waits.
+    pub fn is_empty(&self) -> bool
+        ensures { result ≡ (length (waiting_rows self.now) == 0) }
+    {
+        self.len() == 0
+    }
+
     /// Forgets all rows.
     pub fn clear(&mut self)
         ensures waiting { waiting_rows self.new ≡ [] }
@@ -82,7 +76,7 @@ impl Waiting {
 
     /// One row more; where no place is left, nothing changes.
     pub fn push(&mut self, row: OutputRow)
-        ensures waiting { waiting_rows self.new ≡ (if nat_lt (stored self.old) 512 then waiting_rows self.old ++ (row_cells row ∷ []) else waiting_rows self.old) }
+        ensures waiting { waiting_rows self.new ≡ (if nat_lt (stored self.old) 512 then waiting_rows self.old ++ (row ∷ []) else waiting_rows self.old) }
         ensures stored { stored self.new ≡ (if nat_lt (stored self.old) 512 then stored self.old + 1 else stored self.old) }
     {
         if self.rows.len() < MAX_WAITING_ROWS {

@@ -1,7 +1,6 @@
 -- Column by column, a cell more is written of the values and of the flags.
 use Rattle.std.proofs.Common.{sym, ap, ◌∙◌, arith, w64, SFits, rules}
 use Rattle.std.proofs.lemmas.Int.{to_z-of_z}
-use Rattle.output.specs.Rows.{row_cells}
 use Rattle.output.specs.Slices.{value_of, flag_of}
 use Rattle.output.proofs.Writing.{put_none, cell_written}
 use Rattle.output.proofs.waiting_rows.write_row.Goals as goal
@@ -11,7 +10,7 @@ loop-column-init c = (sym (put_none c.args.start c.args.values.now), sym (put_no
 
 pub loop-column-preserved : goal.loop-column-preserved
 loop-column-preserved c =
-    let row = row_cells c.args.row.now in
+    let row = c.args.row.now in
     let n = c.loop-column.column in
     let place = c.saturating_add-place.result in
     let value = c.parts-value.result.0 in
