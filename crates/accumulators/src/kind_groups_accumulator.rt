@@ -23,11 +23,7 @@ impl<K: AggregateKind> KindGroupsAccumulator<K> {
     fn held(&self, group: usize) -> K::State
         ensures { result ≡ slice_index_or self.now.states.items group K.kind.neutral }
     {
-        if group < self.states.len() {
-            self.states[group]
-        } else {
-            K::neutral()
-        }
+        self.states.get(group).copied().unwrap_or(K::neutral())
     }
 }
 
@@ -36,7 +32,7 @@ impl<K: AggregateKind> GroupsAccumulator for KindGroupsAccumulator<K> {
 
     ghost states = { λ a. a.states.items };
 
-    ghost aggregation = { of_kind K.AggregateKind.kind };
+    ghost aggregation = { of_kind K.kind };
 
     ghost lawful = { Prim.search rules };
 
@@ -45,7 +41,7 @@ impl<K: AggregateKind> GroupsAccumulator for KindGroupsAccumulator<K> {
     }
 
     fn state_cells() -> usize {
-        K::width()
+        K::STATE_CELLS
     }
 
     fn num_groups(&self) -> usize {
