@@ -63,8 +63,8 @@ impl<K: AggregateKind> GroupsAccumulator for KindGroupsAccumulator<K> {
         for (row, place) in places.iter().enumerate() {
             if *place < total {
                 let own = K::own(first_argument(batch, row, exprs));
-                let before = self.states[*place];
-                self.states[*place] = K::join(before, own);
+                let state = &mut self.states[*place];
+                *state = K::join(*state, own);
             }
         }
     }

@@ -69,15 +69,12 @@ sum_folds = record { assoc = added-assoc; keeps = λ a b f g. added-fits a b }
 pub sum-lawful : LawfulKind sum_kind
 sum-lawful = value_lawful added sum_folds
 
-int_min-assoc : (a b c : ℤ) → int_min (int_min a b) c ≡ int_min a (int_min b c)
-int_min-assoc a b c = omega (arith, ints, clamps)
-
 int_min-fits : (a b : ℤ) → Fits a → Fits b → Fits (int_min a b)
 int_min-fits a b f g =
     elim (int_lt b a) as (λ t. Fits (cond t b a)) [ true ↦ g | false ↦ f ]
 
 pub min_folds : LawfulFold int_min
-min_folds = record { assoc = int_min-assoc; keeps = int_min-fits }
+min_folds = record { assoc = λ a b c. omega (arith, ints, clamps); keeps = int_min-fits }
 
 pub min-lawful : LawfulKind min_kind
 min-lawful = value_lawful int_min min_folds
