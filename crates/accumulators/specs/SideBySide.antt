@@ -1,8 +1,7 @@
 -- What is done to two lists of states is done to them side by side.
-use Rattle.std.specs.Prelude.{◌≡◌, ℕ, zero, suc, ◌+◌, ◌-◌, ◌<◌, ◌≤◌, min, max, List, [], ◌∷◌, ◌++◌, length, take, drop, set, replicate, slice_index_or, slice_set, refl}
-use Rattle.std.proofs.Common.{sym, ap, ◌∙◌, ⊎_elim, arith}
-use Rattle.std.proofs.lemmas.List.{length-set, length-append, length-replicate, length-drop, get_or-drop, ext_get_or}
-use Rattle.std.proofs.lemmas.Bool.{cases_lt}
+use Rattle.std.specs.Prelude.{◌≡◌, ℕ, zero, suc, ◌+◌, ◌<◌, ◌≤◌, min, max, List, [], ◌∷◌, ◌++◌, length, take, drop, replicate, slice_index_or, slice_set, refl}
+use Rattle.std.proofs.Common.{sym, ap, ◌∙◌, arith}
+use Rattle.std.proofs.lemmas.List.{ext_get_or}
 use Rattle.std.proofs.lemmas.Grind.{common_steps}
 use Rattle.cells.specs.Rows.{CellOf}
 use Rattle.cells.specs.Emits.{left}
@@ -11,9 +10,6 @@ use Rattle.cells.specs.declared.emit_to.EmitTo.TheVariants.{All, First}
 use Rattle.aggregates.specs.declared.aggregate_expr.AggregateExpr.{AggregateExpr}
 use Rattle.accumulators.specs.Aggregations.{Aggregation, paired}
 use Rattle.accumulators.specs.Groups.{grown, fed, fed_from, updated, side_by_side}
-
-pub pairs : {S T : Type 0} {s u : S} {t v : T} → s ≡ u → t ≡ v → ◌≡◌ {A = S × T} (s, t) (u, v)
-pairs {S} {T} {s} {u} {t} {v} e f = ap (λ (x : S). (x, t)) e ∙ ap (λ (y : T). (u, y)) f
 
 module _ {S : Type 0} (e : S) where
   get_or-padded : (n : ℕ) (ss : List S) (i : ℕ) → slice_index_or (ss ++ replicate n e) i e ≡ slice_index_or ss i e

@@ -1,14 +1,21 @@
-//! The calls of an accumulator of one aggregate.
+//! The accumulator of one aggregate, of any kind.
 
-ghost use Rattle.std.specs.Prelude.{◌≡◌, [], IfOk, slice_index_or};
+ghost use Rattle.std.specs.Prelude.{◌≡◌, ◌≤◌, [], IfOk, slice_index_or, vec_capacity};
 ghost use Rattle.accumulators.specs.Aggregations.{of_kind};
 ghost use Rattle.std.proofs.Common.{rules};
 
 use crate::groups_accumulator::GroupsAccumulator;
-use crate::kind_groups::KindGroupsAccumulator;
 use aggregates::{AggregateExpr, AggregateKind, first_argument, write_cell};
 use cells::{Batch, Cell, EmitTo, MAX_GROUPS};
 use std::alloc::{AllocError, Global};
+
+/// The accumulator of one aggregate, of any kind.
+#[derive(Drop)]
+pub struct KindGroupsAccumulator<K: AggregateKind> {
+    /// The state of each held group, by its place.
+    states: Vec<K::State>,
+    ghost room: { 512 ≤ vec_capacity states },
+}
 
 impl<K: AggregateKind> KindGroupsAccumulator<K> {
     /// An accumulator of no groups, with room for all that it will ever hold.

@@ -1,8 +1,8 @@
 -- Wrapping addition is associative, and 0 is neutral to the numbers that fit.
 use Rattle.std.specs.Prelude.{◌≡◌, ℤ, pos, ◌+ℤ◌, Some, None}
-use Rattle.std.proofs.Common.{sym, ap, ◌∙◌, arith, lit<}
+use Rattle.std.proofs.Common.{arith, lit<}
 use Rattle.std.proofs.Math.IntN.{+ℤ_assoc}
-use Rattle.std.specs.Int.{int_wrap, w64}
+use Rattle.std.specs.Int.{w64}
 use Rattle.std.proofs.lemmas.Int.{ints, int_wrap-add_left, int_wrap-add_right, int_wrap_fits, SFits-int_wrap}
 use Rattle.cells.specs.Rows.{CellOf}
 use Rattle.aggregates.specs.Wrapping.{Fits, cut, added, FitsCell, cut_cell, number}
