@@ -15,9 +15,6 @@ module _ {S : Type 0} (e : S) where
   get_or-padded : (n : ℕ) (ss : List S) (i : ℕ) → slice_index_or (ss ++ replicate n e) i e ≡ slice_index_or ss i e
   get_or-padded n ss i = grind (arith, common_steps)
 
-  pub length-grown : (n : ℕ) (ss : List S) → length (grown e n ss) ≡ max n (length ss)
-  length-grown n ss = grind (arith, common_steps)
-
 module _ {S T : Type 0} (e : S) (f : T) where
   pub length-side_by_side : (ss : List S) (ts : List T) → length (side_by_side e f ss ts) ≡ max (length ss) (length ts)
   length-side_by_side [] [] = refl
@@ -33,9 +30,6 @@ module _ {S T : Type 0} (e : S) (f : T) where
   get_or-side_by_side (s ∷ ss) [] (suc i) = get_or-side_by_side ss [] i
   get_or-side_by_side (s ∷ ss) (t ∷ ts) zero = refl
   get_or-side_by_side (s ∷ ss) (t ∷ ts) (suc i) = get_or-side_by_side ss ts i
-
-  side_by_side-same : {ss us : List S} {ts vs : List T} → us ≡ ss → vs ≡ ts → side_by_side e f us vs ≡ side_by_side e f ss ts
-  side_by_side-same {ss} {us} {ts} {vs} p q = ap (λ (xs : List S). side_by_side e f xs vs) p ∙ ap (side_by_side e f ss) q
 
   -- the length and the elements tell
   side_by_side-is : (ss : List S) (ts : List T) (zs : List (S × T)) → length zs ≡ max (length ss) (length ts)

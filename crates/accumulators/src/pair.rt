@@ -33,8 +33,7 @@ fn split_exprs<A: GroupsAccumulator>(
     ensures front { result.0.now ≡ take A.aggregation.aggregates exprs.now }
     ensures back { result.1.now ≡ drop A.aggregation.aggregates exprs.now }
 {
-    let named = exprs.len();
-    exprs.split_at(A::aggregates().min(named))
+    exprs.split_at(A::aggregates().min(exprs.len()))
 }
 
 impl<P, Q> GroupsAccumulator for PairGroupsAccumulator<P, Q>
@@ -84,22 +83,19 @@ where
         out: &mut [Cell],
     ) {
         let (front, back) = split_exprs::<P>(exprs);
-        let cut = P::state_cells().min(out.len());
-        let (left, right) = out.split_at_mut(cut);
+        let (left, right) = out.split_at_mut(P::state_cells().min(out.len()));
         self.first.convert_to_state(batch, front, row, left);
         self.second.convert_to_state(batch, back, row, right);
     }
 
     fn state(&self, group: usize, out: &mut [Cell]) {
-        let cut = P::state_cells().min(out.len());
-        let (left, right) = out.split_at_mut(cut);
+        let (left, right) = out.split_at_mut(P::state_cells().min(out.len()));
         self.first.state(group, left);
         self.second.state(group, right);
     }
 
     fn evaluate(&self, group: usize, out: &mut [Cell]) {
-        let cut = P::aggregates().min(out.len());
-        let (left, right) = out.split_at_mut(cut);
+        let (left, right) = out.split_at_mut(P::aggregates().min(out.len()));
         self.first.evaluate(group, left);
         self.second.evaluate(group, right);
     }

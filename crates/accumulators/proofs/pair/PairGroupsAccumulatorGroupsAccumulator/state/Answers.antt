@@ -12,4 +12,4 @@ returns g c =
     let parts = c.split_at_mut-left.ensures in
     let at = get_or-side_by_side p.aggregation.neutral q.aggregation.neutral (p.states self.first) (q.states self.second) c.args.group in
     rw (at, c.state.ensures, c.state-2.ensures)
-    (overlaid-cut _ _ c.args.out.now _ _ _ _ _ (g.met.P.GroupsAccumulator.lawful.shows_length _) c.state_cells.ensures c.min-cut.ensures (search rules) parts.front parts.back)
+    (overlaid-cut _ _ c.args.out.now _ _ _ _ _ (g.met.P.GroupsAccumulator.lawful.shows_length _) c.state_cells.ensures c.min.ensures (search rules) parts.front parts.back)
