@@ -1,8 +1,8 @@
 -- What is done to two lists of states is done to them side by side.
-use Rattle.std.specs.Prelude.{◌≡◌, ℕ, zero, suc, ◌+◌, ◌-◌, ◌<◌, ◌≤◌, min, max, List, [], ◌∷◌, ◌++◌, length, take, drop, set, replicate, slice_index_or, slice_set, refl}
-use Rattle.std.proofs.Common.{sym, ap, ◌∙◌, ⊎_elim, arith}
-use Rattle.std.proofs.lemmas.List.{length-set, length-append, length-replicate, length-drop, get_or-drop, ext_get_or}
-use Rattle.std.proofs.lemmas.Bool.{cases_lt}
+use Rattle.std.specs.Prelude.{◌≡◌, ℕ, zero, suc, ◌+◌, ◌<◌, ◌≤◌, min, max, List, [], ◌∷◌, ◌++◌, length, take, drop, replicate, slice_index_or, slice_set, refl}
+use Rattle.std.proofs.Common.{sym, ap, ◌∙◌, arith}
+use Rattle.std.proofs.lemmas.List.{ext_get_or}
+use Rattle.std.proofs.lemmas.Grind.{common_steps}
 use Rattle.cells.specs.Rows.{CellOf}
 use Rattle.cells.specs.Emits.{left}
 use Rattle.cells.specs.declared.emit_to.EmitTo.{EmitTo}
@@ -10,24 +10,10 @@ use Rattle.cells.specs.declared.emit_to.EmitTo.TheVariants.{All, First}
 use Rattle.aggregates.specs.declared.aggregate_expr.AggregateExpr.{AggregateExpr}
 use Rattle.accumulators.specs.Aggregations.{Aggregation, paired}
 use Rattle.accumulators.specs.Groups.{grown, fed, fed_from, updated, side_by_side}
-use Rattle.accumulators.specs.Feeding.{fed-below, fed-past}
-
-pub pairs : {S T : Type 0} {s u : S} {t v : T} → s ≡ u → t ≡ v → ◌≡◌ {A = S × T} (s, t) (u, v)
-pairs {S} {T} {s} {u} {t} {v} e f = ap (λ (x : S). (x, t)) e ∙ ap (λ (y : T). (u, y)) f
 
 module _ {S : Type 0} (e : S) where
-  get_or-replicate_own : (n i : ℕ) → slice_index_or (replicate n e) i e ≡ e
-  get_or-replicate_own zero i = refl
-  get_or-replicate_own (suc n) zero = refl
-  get_or-replicate_own (suc n) (suc i) = get_or-replicate_own n i
-
   get_or-padded : (n : ℕ) (ss : List S) (i : ℕ) → slice_index_or (ss ++ replicate n e) i e ≡ slice_index_or ss i e
-  get_or-padded n [] i = get_or-replicate_own n i
-  get_or-padded n (s ∷ ss) zero = refl
-  get_or-padded n (s ∷ ss) (suc i) = get_or-padded n ss i
-
-  pub length-grown : (n : ℕ) (ss : List S) → length (grown e n ss) ≡ max n (length ss)
-  length-grown n ss = length-append ss (replicate (n - length ss) e) ∙ omega (arith, length-replicate (n - length ss) e)
+  get_or-padded n ss i = grind (arith, common_steps)
 
 module _ {S T : Type 0} (e : S) (f : T) where
   pub length-side_by_side : (ss : List S) (ts : List T) → length (side_by_side e f ss ts) ≡ max (length ss) (length ts)
@@ -45,9 +31,6 @@ module _ {S T : Type 0} (e : S) (f : T) where
   get_or-side_by_side (s ∷ ss) (t ∷ ts) zero = refl
   get_or-side_by_side (s ∷ ss) (t ∷ ts) (suc i) = get_or-side_by_side ss ts i
 
-  side_by_side-same : {ss us : List S} {ts vs : List T} → us ≡ ss → vs ≡ ts → side_by_side e f us vs ≡ side_by_side e f ss ts
-  side_by_side-same {ss} {us} {ts} {vs} p q = ap (λ (xs : List S). side_by_side e f xs vs) p ∙ ap (side_by_side e f ss) q
-
   -- the length and the elements tell
   side_by_side-is : (ss : List S) (ts : List T) (zs : List (S × T)) → length zs ≡ max (length ss) (length ts)
       → ((i : ℕ) → slice_index_or zs i (e, f) ≡ (slice_index_or ss i e, slice_index_or ts i f)) → side_by_side e f ss ts ≡ zs
@@ -57,14 +40,14 @@ module _ {S T : Type 0} (e : S) (f : T) where
   side_by_side-drop : (n : ℕ) (ss : List S) (ts : List T) → side_by_side e f (drop n ss) (drop n ts) ≡ drop n (side_by_side e f ss ts)
   side_by_side-drop n ss ts =
       side_by_side-is (drop n ss) (drop n ts) (drop n (side_by_side e f ss ts))
-      (omega (arith, length-drop n ss, length-drop n ts, length-drop n (side_by_side e f ss ts), length-side_by_side ss ts))
-      (λ i. get_or-drop n (side_by_side e f ss ts) i (e, f) ∙ get_or-side_by_side ss ts (n + i) ∙ pairs (sym (get_or-drop n ss i e)) (sym (get_or-drop n ts i f)))
+      (grind (arith, common_steps, length-side_by_side ss ts))
+      (λ i. grind (arith, common_steps, get_or-side_by_side ss ts (n + i)))
 
   side_by_side-grown : (n : ℕ) (ss : List S) (ts : List T) → side_by_side e f (grown e n ss) (grown f n ts) ≡ grown (e, f) n (side_by_side e f ss ts)
   side_by_side-grown n ss ts =
       side_by_side-is (grown e n ss) (grown f n ts) (grown (e, f) n (side_by_side e f ss ts))
-      (omega (arith, length-grown e n ss, length-grown f n ts, length-grown (e, f) n (side_by_side e f ss ts), length-side_by_side ss ts))
-      (λ i. get_or-padded (e, f) _ (side_by_side e f ss ts) i ∙ get_or-side_by_side ss ts i ∙ pairs (sym (get_or-padded e _ ss i)) (sym (get_or-padded f _ ts i)))
+      (grind (arith, common_steps, length-side_by_side ss ts))
+      (λ i. rw (get_or-padded (e, f) _ (side_by_side e f ss ts) i, get_or-padded e _ ss i, get_or-padded f _ ts i) (get_or-side_by_side ss ts i))
 
   side_by_side-set : (ss : List S) (ts : List T) (i : ℕ) (s : S) (t : T) → i < length ss → i < length ts
       → side_by_side e f (slice_set ss i s) (slice_set ts i t) ≡ slice_set (side_by_side e f ss ts) i (s, t)
@@ -75,29 +58,18 @@ module _ {S T : Type 0} (e : S) (f : T) where
 
   pub side_by_side-left : (to : EmitTo) (ss us : List S) (ts vs : List T) → us ≡ left to ss → vs ≡ left to ts
       → side_by_side e f us vs ≡ left to (side_by_side e f ss ts)
-  side_by_side-left All ss us ts vs p q = side_by_side-same p q
-  side_by_side-left (First n) ss us ts vs p q = side_by_side-same p q ∙ side_by_side-drop n ss ts
+  side_by_side-left All ss us ts vs p q = rw (p, q) refl
+  side_by_side-left (First n) ss us ts vs p q = rw (p, q) (side_by_side-drop n ss ts)
 
 length-fed : {S : Type 0} (a : Aggregation S) (n place : ℕ) (s : S) (ss : List S) → length (fed a n place s ss) ≡ length ss
-length-fed a n place s ss =
-    ⊎_elim (λ h. ap length (fed-below a n place s ss h) ∙ length-set ss place _) (λ h. ap length (fed-past a n place s ss h)) (cases_lt place n)
+length-fed a n place s ss = grind (arith, common_steps)
 
 module _ {S T : Type 0} (a : Aggregation S) (b : Aggregation T) where
   side_by_side-fed : (n place : ℕ) (s : S) (t : T) (ss : List S) (ts : List T) → n ≤ length ss → n ≤ length ts
       → side_by_side a.neutral b.neutral (fed a n place s ss) (fed b n place t ts)
       ≡ fed (paired a b) n place (s, t) (side_by_side a.neutral b.neutral ss ts)
   side_by_side-fed n place s t ss ts l m =
-      let e = a.neutral in
-      let f = b.neutral in
-      let zs = side_by_side e f ss ts in
-      ⊎_elim
-      (λ h.
-      side_by_side-same e f (fed-below a n place s ss h) (fed-below b n place t ts h)
-      ∙ side_by_side-set e f ss ts place _ _ (omega arith) (omega arith)
-      ∙ ap (λ (p : S × T). set zs place ((paired a b).join p (s, t))) (sym (get_or-side_by_side e f ss ts place))
-      ∙ sym (fed-below (paired a b) n place (s, t) zs h))
-      (λ h. side_by_side-same e f (fed-past a n place s ss h) (fed-past b n place t ts h) ∙ sym (fed-past (paired a b) n place (s, t) zs h))
-      (cases_lt place n)
+      grind (arith, side_by_side-set a.neutral b.neutral ss ts place, get_or-side_by_side a.neutral b.neutral ss ts place)
 
   module _ (exprs : List AggregateExpr) (rows : List (List CellOf)) where
     side_by_side-fed_from : (places : List ℕ) (n i : ℕ) (ss : List S) (ts : List T) → n ≤ length ss → n ≤ length ts
@@ -107,7 +79,7 @@ module _ {S T : Type 0} (a : Aggregation S) (b : Aggregation T) where
     side_by_side-fed_from (p ∷ places) n i ss ts l m =
         let s = a.own (take a.aggregates exprs) (slice_index_or rows i []) in
         let t = b.own (drop a.aggregates exprs) (slice_index_or rows i []) in
-        side_by_side-fed_from places n (i + 1) (fed a n p s ss) (fed b n p t ts) (omega (arith, length-fed a n p s ss)) (omega (arith, length-fed b n p t ts))
+        side_by_side-fed_from places n (i + 1) (fed a n p s ss) (fed b n p t ts) (grind (arith, common_steps)) (grind (arith, common_steps))
         ∙ ap (λ (zs : List (S × T)). fed_from (paired a b) exprs rows n (i + 1) zs places) (side_by_side-fed n p s t ss ts l m)
 
     -- us and vs are what each holds after a batch
@@ -116,11 +88,6 @@ module _ {S T : Type 0} (a : Aggregation S) (b : Aggregation T) where
         → us ≡ updated a front rows places total ss → vs ≡ updated b back rows places total ts
         → side_by_side a.neutral b.neutral us vs ≡ updated (paired a b) exprs rows places total (side_by_side a.neutral b.neutral ss ts)
     side_by_side-updated front back places total ss us ts vs first second p q =
-        let e = a.neutral in
-        let f = b.neutral in
         let n = min total 512 in
-        side_by_side-same e f
-        (p ∙ ap (λ (es : List AggregateExpr). updated a es rows places total ss) first)
-        (q ∙ ap (λ (es : List AggregateExpr). updated b es rows places total ts) second)
-        ∙ side_by_side-fed_from places n 0 (grown e n ss) (grown f n ts) (omega (arith, length-grown e n ss)) (omega (arith, length-grown f n ts))
-        ∙ ap (λ (zs : List (S × T)). fed_from (paired a b) exprs rows n 0 zs places) (side_by_side-grown e f n ss ts)
+        rw (p, q, first, second, ← side_by_side-grown a.neutral b.neutral n ss ts)
+        (side_by_side-fed_from places n 0 (grown a.neutral n ss) (grown b.neutral n ts) (grind (arith, common_steps)) (grind (arith, common_steps)))

@@ -1,14 +1,21 @@
-//! The calls of an accumulator of one aggregate.
+//! The accumulator of one aggregate, of any kind.
 
-ghost use Rattle.std.specs.Prelude.{◌≡◌, [], IfOk, slice_index_or};
+ghost use Rattle.std.specs.Prelude.{◌≡◌, ◌≤◌, [], IfOk, slice_index_or, vec_capacity};
 ghost use Rattle.accumulators.specs.Aggregations.{of_kind};
 ghost use Rattle.std.proofs.Common.{rules};
 
 use crate::groups_accumulator::GroupsAccumulator;
-use crate::kind_groups::KindGroupsAccumulator;
 use aggregates::{AggregateExpr, AggregateKind, first_argument, write_cell};
 use cells::{Batch, Cell, EmitTo, MAX_GROUPS};
 use std::alloc::{AllocError, Global};
+
+/// The accumulator of one aggregate, of any kind.
+#[derive(Drop)]
+pub struct KindGroupsAccumulator<K: AggregateKind> {
+    /// The state of each held group, by its place.
+    states: Vec<K::State>,
+    ghost room: { 512 ≤ vec_capacity states },
+}
 
 impl<K: AggregateKind> KindGroupsAccumulator<K> {
     /// An accumulator of no groups, with room for all that it will ever hold.
@@ -23,11 +30,7 @@ impl<K: AggregateKind> KindGroupsAccumulator<K> {
     fn held(&self, group: usize) -> K::State
         ensures { result ≡ slice_index_or self.now.states.items group K.kind.neutral }
     {
-        if group < self.states.len() {
-            self.states[group]
-        } else {
-            K::neutral()
-        }
+        self.states.get(group).copied().unwrap_or(K::neutral())
     }
 }
 
@@ -36,7 +39,7 @@ impl<K: AggregateKind> GroupsAccumulator for KindGroupsAccumulator<K> {
 
     ghost states = { λ a. a.states.items };
 
-    ghost aggregation = { of_kind K.AggregateKind.kind };
+    ghost aggregation = { of_kind K.kind };
 
     ghost lawful = { Prim.search rules };
 
@@ -45,7 +48,7 @@ impl<K: AggregateKind> GroupsAccumulator for KindGroupsAccumulator<K> {
     }
 
     fn state_cells() -> usize {
-        K::width()
+        K::STATE_CELLS
     }
 
     fn num_groups(&self) -> usize {
@@ -67,8 +70,8 @@ impl<K: AggregateKind> GroupsAccumulator for KindGroupsAccumulator<K> {
         for (row, place) in places.iter().enumerate() {
             if *place < total {
                 let own = K::own(first_argument(batch, row, exprs));
-                let before = self.states[*place];
-                self.states[*place] = K::join(before, own);
+                let state = &mut self.states[*place];
+                *state = K::join(*state, own);
             }
         }
     }

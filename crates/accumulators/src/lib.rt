@@ -6,12 +6,11 @@
 #![tactic(auto)]
 
 mod groups_accumulator;
-mod kind_groups;
 mod kind_groups_accumulator;
 mod pair;
 
 pub use groups_accumulator::GroupsAccumulator;
-pub use kind_groups::KindGroupsAccumulator;
+pub use kind_groups_accumulator::KindGroupsAccumulator;
 pub use pair::PairGroupsAccumulator;
 
 #[cfg(test)]

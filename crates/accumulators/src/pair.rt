@@ -33,8 +33,7 @@ fn split_exprs<A: GroupsAccumulator>(
     ensures front { result.0.now ≡ take A.aggregation.aggregates exprs.now }
     ensures back { result.1.now ≡ drop A.aggregation.aggregates exprs.now }
 {
-    let named = exprs.len();
-    exprs.split_at(A::aggregates().min(named))
+    exprs.split_at(A::aggregates().min(exprs.len()))
 }
 
 impl<P, Q> GroupsAccumulator for PairGroupsAccumulator<P, Q>
@@ -44,11 +43,11 @@ where
 {
     type State = (P::State, Q::State);
 
-    ghost states = { λ p. side_by_side P.GroupsAccumulator.aggregation.neutral Q.GroupsAccumulator.aggregation.neutral (P.GroupsAccumulator.states p.first) (Q.GroupsAccumulator.states p.second) };
+    ghost states = { λ p. side_by_side P.aggregation.neutral Q.aggregation.neutral (P.states p.first) (Q.states p.second) };
 
-    ghost aggregation = { paired P.GroupsAccumulator.aggregation Q.GroupsAccumulator.aggregation };
+    ghost aggregation = { paired P.aggregation Q.aggregation };
 
-    ghost lawful = { pair_lawful _ _ P.GroupsAccumulator.lawful Q.GroupsAccumulator.lawful };
+    ghost lawful = { pair_lawful _ _ P.lawful Q.lawful };
 
     fn aggregates() -> usize {
         P::aggregates().saturating_add(Q::aggregates())
@@ -84,31 +83,21 @@ where
         out: &mut [Cell],
     ) {
         let (front, back) = split_exprs::<P>(exprs);
-        let cut = P::state_cells();
-        let end = out.len();
-        self.first.convert_to_state(batch, front, row, out);
-        if cut < end {
-            self.second
-                .convert_to_state(batch, back, row, &mut out[cut..end]);
-        }
+        let (left, right) = out.split_at_mut(P::state_cells().min(out.len()));
+        self.first.convert_to_state(batch, front, row, left);
+        self.second.convert_to_state(batch, back, row, right);
     }
 
     fn state(&self, group: usize, out: &mut [Cell]) {
-        let cut = P::state_cells();
-        let end = out.len();
-        self.first.state(group, out);
-        if cut < end {
-            self.second.state(group, &mut out[cut..end]);
-        }
+        let (left, right) = out.split_at_mut(P::state_cells().min(out.len()));
+        self.first.state(group, left);
+        self.second.state(group, right);
     }
 
     fn evaluate(&self, group: usize, out: &mut [Cell]) {
-        let cut = P::aggregates();
-        let end = out.len();
-        self.first.evaluate(group, out);
-        if cut < end {
-            self.second.evaluate(group, &mut out[cut..end]);
-        }
+        let (left, right) = out.split_at_mut(P::aggregates().min(out.len()));
+        self.first.evaluate(group, left);
+        self.second.evaluate(group, right);
     }
 
     fn emit(&mut self, emit_to: EmitTo) {

@@ -1,9 +1,14 @@
 -- Sum, Min and Earliest: absent until a value comes. Assumes nothing.
-use Rattle.std.specs.Prelude.{[], ◌∷◌, ℤ, Some, None, slice_index_or}
+use Rattle.std.specs.Prelude.{◌≡◌, [], ◌∷◌, ℤ, Some, None, slice_index_or}
 use Rattle.std.specs.Int.{int_min}
 use Rattle.cells.specs.Rows.{CellOf}
 use Rattle.aggregates.specs.Kinds.{Kind}
-use Rattle.aggregates.specs.Wrapping.{added, FitsCell, cut_cell}
+use Rattle.aggregates.specs.Wrapping.{Fits, added, FitsCell, cut_cell}
+
+-- what a fold of values promises
+pub record LawfulFold (f : ℤ → ℤ → ℤ) : Type 0 where
+  pub assoc : (a b c : ℤ) → f (f a b) c ≡ f a (f b c)
+  pub keeps : (a b : ℤ) → Fits a → Fits b → Fits (f a b)
 
 -- two values become one by f; beside an absent one the other stays
 abbrev pub join_cells : (ℤ → ℤ → ℤ) → CellOf → CellOf → CellOf
@@ -24,6 +29,7 @@ value_kind f = record {
   cells = 1;
 }
 
+-- the kinds of `Sum`, `Min` and `Earliest`
 abbrev pub sum_kind : Kind CellOf
 sum_kind = value_kind added
 

@@ -16,16 +16,14 @@ pub struct AggregateExpr {
 fn is_true(cell: Cell) -> bool
     ensures { result ≡ is_true cell }
 {
-    match cell {
-        Some(value) => value != 0,
-        None => false,
-    }
+    cell.is_some_and(|value| value != 0)
 }
 
 /// The argument of a row, absent where the filter fails.
 pub fn argument(batch: &Batch<'_, '_>, row: usize, expr: AggregateExpr) -> Cell
     ensures { result ≡ argument_of expr (slice_index_or (view_rows batch.now) row []) }
 {
+    // A closure over a batch would need its contract written out.
     let passes = match expr.filter {
         Some(column) => is_true(batch.cell(row, column)),
         None => true,
@@ -41,8 +39,5 @@ pub fn argument(batch: &Batch<'_, '_>, row: usize, expr: AggregateExpr) -> Cell
 pub fn first_argument(batch: &Batch<'_, '_>, row: usize, exprs: &[AggregateExpr]) -> Cell
     ensures { result ≡ first_argument exprs.now (slice_index_or (view_rows batch.now) row []) }
 {
-    match exprs {
-        [expr, ..] => argument(batch, row, *expr),
-        [] => None,
-    }
+    argument(batch, row, *exprs.first()?)
 }

@@ -1,9 +1,8 @@
 //! One kind of aggregate.
 
-ghost use Rattle.std.specs.Prelude.{◌≡◌, slice_set};
+ghost use Rattle.std.specs.Prelude.{◌≡◌, ℕ, slice_set};
 ghost use Rattle.cells.specs.Rows.{overlaid};
 ghost use Rattle.aggregates.specs.Kinds.{Kind, LawfulKind};
-ghost use Rattle.aggregates.specs.Wrapping.{cut_cell};
 
 use cells::Cell;
 
@@ -14,12 +13,10 @@ pub trait AggregateKind {
     /// How many cells a state has.
     const STATE_CELLS: usize;
 
+    ghost STATE_CELLS: { ℕ };
+
     // What a state is: how two join, what a row's own is, and what is shown of it.
     ghost kind: { Kind Self.State };
-
-    /// How many cells a state has.
-    fn width() -> usize
-        ensures { result ≡ kind.cells };
 
     /// What a group holds before its first row.
     fn neutral() -> Self::State
@@ -42,6 +39,8 @@ pub trait AggregateKind {
         ensures { result ≡ kind.result state };
 
     ghost lawful: { LawfulKind kind };
+
+    ghost same_cells: { STATE_CELLS ≡ kind.cells };
 }
 
 /// Writes one cell; a place past the end is passed over.
@@ -50,15 +49,5 @@ pub fn write_cell(out: &mut [Cell], place: usize, cell: Cell)
 {
     if place < out.len() {
         out[place] = cell;
-    }
-}
-
-/// The argument itself, taken apart since only then is its value known to have 64 bits.
-pub(crate) fn own_cell(argument: Cell) -> Cell
-    ensures { result ≡ cut_cell argument }
-{
-    match argument {
-        Some(value) => Some(value),
-        None => None,
     }
 }

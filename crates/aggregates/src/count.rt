@@ -1,5 +1,6 @@
 //! How many rows have an argument.
 
+ghost use Rattle.std.specs.Prelude.{refl};
 ghost use Rattle.aggregates.specs.Counts.{count_kind};
 ghost use Rattle.aggregates.specs.LawsOfKinds.{count-lawful};
 
@@ -15,13 +16,13 @@ impl AggregateKind for Count {
 
     const STATE_CELLS: usize = 1;
 
+    ghost STATE_CELLS = { 1 };
+
     ghost kind = { count_kind };
 
     ghost lawful = { count-lawful };
 
-    fn width() -> usize {
-        Self::STATE_CELLS
-    }
+    ghost same_cells = { refl };
 
     fn neutral() -> i64 {
         0
@@ -32,10 +33,7 @@ impl AggregateKind for Count {
     }
 
     fn own(argument: Cell) -> i64 {
-        match argument {
-            Some(_) => 1,
-            None => 0,
-        }
+        i64::from(argument.is_some())
     }
 
     fn write(state: i64, out: &mut [Cell]) {

@@ -1,48 +1,22 @@
 //! The argument that came first; absent until one comes.
 
-ghost use Rattle.aggregates.specs.Values.{earliest_kind};
-ghost use Rattle.aggregates.specs.LawsOfKinds.{earliest_lawful};
+ghost use Rattle.aggregates.specs.LawsOfKinds.{earliest_folds};
 
-use crate::aggregate_kind::{AggregateKind, own_cell, write_cell};
-use cells::Cell;
+use crate::folded::{Fold, Folded};
 
 /// The argument that came first; absent until one comes.
+pub type Earliest = Folded<Earlier>;
+
+/// The earlier of two.
 #[derive(Clone, Copy)]
-pub struct Earliest;
+pub struct Earlier;
 
-impl AggregateKind for Earliest {
-    type State = Cell;
+impl Fold for Earlier {
+    ghost op = { λ earlier later. earlier };
 
-    const STATE_CELLS: usize = 1;
+    ghost lawful = { earliest_folds };
 
-    ghost kind = { earliest_kind };
-
-    ghost lawful = { earliest_lawful };
-
-    fn width() -> usize {
-        Self::STATE_CELLS
-    }
-
-    fn neutral() -> Cell {
-        None
-    }
-
-    fn join(earlier: Cell, later: Cell) -> Cell {
-        match earlier {
-            Some(_) => earlier,
-            None => later,
-        }
-    }
-
-    fn own(argument: Cell) -> Cell {
-        own_cell(argument)
-    }
-
-    fn write(state: Cell, out: &mut [Cell]) {
-        write_cell(out, 0, state);
-    }
-
-    fn result(state: Cell) -> Cell {
-        state
+    fn fold(earlier: i64, _later: i64) -> i64 {
+        earlier
     }
 }

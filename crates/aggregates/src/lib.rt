@@ -8,6 +8,7 @@ mod aggregate_expr;
 mod aggregate_kind;
 mod count;
 mod earliest;
+mod folded;
 mod mean;
 mod min;
 mod sum;
@@ -15,10 +16,11 @@ mod sum;
 pub use aggregate_expr::{AggregateExpr, argument, first_argument};
 pub use aggregate_kind::{AggregateKind, write_cell};
 pub use count::Count;
-pub use earliest::Earliest;
+pub use earliest::{Earlier, Earliest};
+pub use folded::{Fold, Folded};
 pub use mean::{Mean, MeanState};
-pub use min::Min;
-pub use sum::Sum;
+pub use min::{Lesser, Min};
+pub use sum::{Plus, Sum};
 
 #[cfg(test)]
 mod tests {

@@ -1,5 +1,6 @@
 //! The mean of the arguments.
 
+ghost use Rattle.std.specs.Prelude.{refl};
 ghost use Rattle.aggregates.specs.Means.{mean_kind};
 ghost use Rattle.aggregates.specs.LawsOfKinds.{mean_lawful};
 
@@ -22,13 +23,13 @@ impl AggregateKind for Mean {
 
     const STATE_CELLS: usize = 2;
 
+    ghost STATE_CELLS = { 2 };
+
     ghost kind = { mean_kind };
 
     ghost lawful = { mean_lawful };
 
-    fn width() -> usize {
-        Self::STATE_CELLS
-    }
+    ghost same_cells = { refl };
 
     fn neutral() -> MeanState {
         MeanState { count: 0, sum: 0 }
@@ -43,11 +44,8 @@ impl AggregateKind for Mean {
 
     fn own(argument: Cell) -> MeanState {
         match argument {
-            Some(value) => MeanState {
-                count: 1,
-                sum: value,
-            },
-            None => MeanState { count: 0, sum: 0 },
+            Some(sum) => MeanState { count: 1, sum },
+            None => Self::neutral(),
         }
     }
 
@@ -57,10 +55,6 @@ impl AggregateKind for Mean {
     }
 
     fn result(state: MeanState) -> Cell {
-        if state.count > 0 {
-            Some(state.sum / state.count)
-        } else {
-            None
-        }
+        (state.count > 0).then(|| state.sum / state.count)
     }
 }

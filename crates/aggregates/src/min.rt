@@ -1,49 +1,23 @@
 //! The smallest argument; absent until one comes.
 
-ghost use Rattle.aggregates.specs.Values.{min_kind};
-ghost use Rattle.aggregates.specs.LawsOfKinds.{min-lawful};
+ghost use Rattle.std.specs.Int.{int_min};
+ghost use Rattle.aggregates.specs.LawsOfKinds.{min_folds};
 
-use crate::aggregate_kind::{AggregateKind, own_cell, write_cell};
-use cells::Cell;
+use crate::folded::{Fold, Folded};
 
 /// The smallest argument; absent until one comes.
+pub type Min = Folded<Lesser>;
+
+/// The lesser of two.
 #[derive(Clone, Copy)]
-pub struct Min;
+pub struct Lesser;
 
-impl AggregateKind for Min {
-    type State = Cell;
+impl Fold for Lesser {
+    ghost op = { int_min };
 
-    const STATE_CELLS: usize = 1;
+    ghost lawful = { min_folds };
 
-    ghost kind = { min_kind };
-
-    ghost lawful = { min-lawful };
-
-    fn width() -> usize {
-        Self::STATE_CELLS
-    }
-
-    fn neutral() -> Cell {
-        None
-    }
-
-    fn join(earlier: Cell, later: Cell) -> Cell {
-        match (earlier, later) {
-            (Some(a), Some(b)) => Some(a.min(b)),
-            (Some(_), None) => earlier,
-            (None, _) => later,
-        }
-    }
-
-    fn own(argument: Cell) -> Cell {
-        own_cell(argument)
-    }
-
-    fn write(state: Cell, out: &mut [Cell]) {
-        write_cell(out, 0, state);
-    }
-
-    fn result(state: Cell) -> Cell {
-        state
+    fn fold(earlier: i64, later: i64) -> i64 {
+        earlier.min(later)
     }
 }

@@ -1,49 +1,23 @@
 //! The sum of the arguments, wrapping at 64 bits; absent until one comes.
 
-ghost use Rattle.aggregates.specs.Values.{sum_kind};
-ghost use Rattle.aggregates.specs.LawsOfKinds.{sum-lawful};
+ghost use Rattle.aggregates.specs.Wrapping.{added};
+ghost use Rattle.aggregates.specs.LawsOfKinds.{sum_folds};
 
-use crate::aggregate_kind::{AggregateKind, own_cell, write_cell};
-use cells::Cell;
+use crate::folded::{Fold, Folded};
 
 /// The sum of the arguments, wrapping at 64 bits; absent until one comes.
+pub type Sum = Folded<Plus>;
+
+/// The sum of two, wrapping at 64 bits.
 #[derive(Clone, Copy)]
-pub struct Sum;
+pub struct Plus;
 
-impl AggregateKind for Sum {
-    type State = Cell;
+impl Fold for Plus {
+    ghost op = { added };
 
-    const STATE_CELLS: usize = 1;
+    ghost lawful = { sum_folds };
 
-    ghost kind = { sum_kind };
-
-    ghost lawful = { sum-lawful };
-
-    fn width() -> usize {
-        Self::STATE_CELLS
-    }
-
-    fn neutral() -> Cell {
-        None
-    }
-
-    fn join(earlier: Cell, later: Cell) -> Cell {
-        match (earlier, later) {
-            (Some(a), Some(b)) => Some(a.wrapping_add(b)),
-            (Some(_), None) => earlier,
-            (None, _) => later,
-        }
-    }
-
-    fn own(argument: Cell) -> Cell {
-        own_cell(argument)
-    }
-
-    fn write(state: Cell, out: &mut [Cell]) {
-        write_cell(out, 0, state);
-    }
-
-    fn result(state: Cell) -> Cell {
-        state
+    fn fold(earlier: i64, later: i64) -> i64 {
+        earlier.wrapping_add(later)
     }
 }
