@@ -5,8 +5,8 @@ ghost use Rattle.accumulators.specs.Aggregations.{of_kind};
 ghost use Rattle.std.proofs.Common.{rules};
 
 use crate::groups_accumulator::GroupsAccumulator;
-use aggregates::{AggregateExpr, AggregateKind, first_argument, write_cell};
-use cells::{Batch, Cell, EmitTo, MAX_GROUPS};
+use aggregates::{AggregateExpr, AggregateKind, first_argument};
+use cells::{Batch, Cell, EmitTo, MAX_GROUPS, put};
 use std::alloc::{AllocError, Global};
 
 /// The accumulator of one aggregate, of any kind.
@@ -91,18 +91,10 @@ impl<K: AggregateKind> GroupsAccumulator for KindGroupsAccumulator<K> {
     }
 
     fn evaluate(&self, group: usize, out: &mut [Cell]) {
-        write_cell(out, 0, K::result(self.held(group)));
+        put(out, 0, K::result(self.held(group)));
     }
 
     fn emit(&mut self, emit_to: EmitTo) {
-        match emit_to {
-            EmitTo::All => self.states.clear(),
-            EmitTo::First(n) => {
-                let held = self.states.len();
-                let gone = n.min(held);
-                self.states.rotate_left(gone);
-                self.states.truncate(held - gone);
-            }
-        }
+        emit_to.shift(&mut self.states);
     }
 }

@@ -1,6 +1,6 @@
 //! One kind of aggregate.
 
-ghost use Rattle.std.specs.Prelude.{◌≡◌, ℕ, slice_set};
+ghost use Rattle.std.specs.Prelude.{◌≡◌, ℕ};
 ghost use Rattle.cells.specs.Rows.{overlaid};
 ghost use Rattle.aggregates.specs.Kinds.{Kind, LawfulKind};
 
@@ -41,13 +41,4 @@ pub trait AggregateKind {
     ghost lawful: { LawfulKind kind };
 
     ghost same_cells: { STATE_CELLS ≡ kind.cells };
-}
-
-/// Writes one cell; a place past the end is passed over.
-pub fn write_cell(out: &mut [Cell], place: usize, cell: Cell)
-    ensures { out.new ≡ slice_set out.old place cell }
-{
-    if place < out.len() {
-        out[place] = cell;
-    }
 }

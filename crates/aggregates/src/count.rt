@@ -4,8 +4,8 @@ ghost use Rattle.std.specs.Prelude.{refl};
 ghost use Rattle.aggregates.specs.Counts.{count_kind};
 ghost use Rattle.aggregates.specs.LawsOfKinds.{count-lawful};
 
-use crate::aggregate_kind::{AggregateKind, write_cell};
-use cells::Cell;
+use crate::aggregate_kind::AggregateKind;
+use cells::{Cell, put};
 
 /// How many rows have an argument, wrapping at 64 bits.
 #[derive(Clone, Copy)]
@@ -37,7 +37,7 @@ impl AggregateKind for Count {
     }
 
     fn write(state: i64, out: &mut [Cell]) {
-        write_cell(out, 0, Some(state));
+        put(out, 0, Some(state));
     }
 
     fn result(state: i64) -> Cell {

@@ -4,8 +4,8 @@ ghost use Rattle.std.specs.Prelude.{◌≡◌, ℤ, refl};
 ghost use Rattle.aggregates.specs.Values.{LawfulFold, value_kind};
 ghost use Rattle.aggregates.specs.LawsOfKinds.{value_lawful};
 
-use crate::aggregate_kind::{AggregateKind, write_cell};
-use cells::Cell;
+use crate::aggregate_kind::AggregateKind;
+use cells::{Cell, put};
 use std::marker::PhantomData;
 
 /// How two values become one, the later behind.
@@ -53,7 +53,7 @@ impl<F: Fold> AggregateKind for Folded<F> {
     }
 
     fn write(state: Cell, out: &mut [Cell]) {
-        write_cell(out, 0, state);
+        put(out, 0, state);
     }
 
     fn result(state: Cell) -> Cell {

@@ -14,7 +14,7 @@ mod min;
 mod sum;
 
 pub use aggregate_expr::{AggregateExpr, argument, first_argument};
-pub use aggregate_kind::{AggregateKind, write_cell};
+pub use aggregate_kind::AggregateKind;
 pub use count::Count;
 pub use earliest::{Earlier, Earliest};
 pub use folded::{Fold, Folded};

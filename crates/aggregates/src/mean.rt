@@ -4,8 +4,8 @@ ghost use Rattle.std.specs.Prelude.{refl};
 ghost use Rattle.aggregates.specs.Means.{mean_kind};
 ghost use Rattle.aggregates.specs.LawsOfKinds.{mean_lawful};
 
-use crate::aggregate_kind::{AggregateKind, write_cell};
-use cells::Cell;
+use crate::aggregate_kind::AggregateKind;
+use cells::{Cell, put};
 
 /// How many arguments came, and their sum.
 #[derive(Clone, Copy, Debug)]
@@ -50,8 +50,8 @@ impl AggregateKind for Mean {
     }
 
     fn write(state: MeanState, out: &mut [Cell]) {
-        write_cell(out, 0, Some(state.count));
-        write_cell(out, 1, Some(state.sum));
+        put(out, 0, Some(state.count));
+        put(out, 1, Some(state.sum));
     }
 
     fn result(state: MeanState) -> Cell {

@@ -1,7 +1,7 @@
 -- A row is made of a key and, behind it, of what a writer put into the part that it was lent.
 use Rattle.std.proofs.Common.{◌≡◌, ℕ, ◌+◌, ◌-◌, ◌^◌, ◌≤◌, min, List, [], ◌∷◌, ◌++◌, length, take, drop, replicate, None, sym, refl, ap, ◌∙◌, inl, inr, arith}
 use borrow.Rule.Slice.PartMut.{put_mid, Post-is}
-use Rattle.std.proofs.lemmas.List.{append_assoc, length-append, length-take-le, length-replicate, take-replicate, drop-replicate, drop_at, take_at, take_all}
+use Rattle.std.proofs.lemmas.List.{append_assoc, length-append, length-replicate, take-replicate, drop-replicate, drop_at, take_at, take_all}
 use Rattle.std.proofs.lemmas.Bool.{cases_lt}
 use Rattle.cells.specs.Rows.{CellOf, overlaid}
 

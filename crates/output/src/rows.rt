@@ -63,8 +63,6 @@ pub fn converted_row<A: GroupsAccumulator>(
 {
     let convert = |out: &mut [Cell]|
         ensures { out.new ≡ overlaid (A.aggregation.shows (A.aggregation.own exprs.entry.now (slice_index_or (view_rows batch.entry.now) number []))) out.old }
-    {
-        accumulator.convert_to_state(batch, exprs, number, out)
-    };
+    { accumulator.convert_to_state(batch, exprs, number, out) };
     built(key, A::state_cells(), convert)
 }

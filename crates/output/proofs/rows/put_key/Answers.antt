@@ -1,4 +1,4 @@
-use Rattle.std.proofs.Common.{sym, ap, ◌++◌, List, ◌∙◌, drop, length, rules, arith}
+use Rattle.std.proofs.Common.{sym, ◌∙◌, arith}
 use Rattle.output.proofs.Making.{overlaid-long}
 use Rattle.output.proofs.rows.put_key.Goals as goal
 
