@@ -1,12 +1,11 @@
--- The cells of the keys in a slice of keys.
-use Rattle.std.proofs.Common.{◌≡◌, ℕ, ◌+◌, ◌<◌, List, [], ◌∷◌, ◌++◌, map, length, get_or, take, sym, ap, ◌∙◌}
-use Rattle.std.proofs.lemmas.List.{get_or-map, map_more}
-use Rattle.cells.specs.Keys.{key_cells}
-use Rattle.cells.specs.declared.key.Key.{Key}
+-- The keys in a slice of keys.
+use Rattle.std.proofs.Common.{◌≡◌, ℕ, ◌+◌, ◌<◌, List, [], ◌∷◌, ◌++◌, length, get_or, take, sym, ap, ◌∙◌}
+use Rattle.std.proofs.lemmas.List.{get_or_default, take_more}
+use Rattle.cells.specs.Rows.{CellOf}
 
-module _ (ks : List Key) (i : ℕ) (k : Key) (within : i < length ks) (read : k ≡ get_or ks i k) where
-  pub cells_at : get_or (map key_cells ks) i [] ≡ key_cells k
-  cells_at = get_or-map key_cells ks i k [] within ∙ sym (ap key_cells read)
+module _ (ks : List (List CellOf)) (i : ℕ) (k : List CellOf) (within : i < length ks) (read : k ≡ get_or ks i k) where
+  pub cells_at : get_or ks i [] ≡ k
+  cells_at = get_or_default ks i [] k within ∙ sym read
 
-  pub cells_more : map key_cells (take (i + 1) ks) ≡ map key_cells (take i ks) ++ key_cells k ∷ []
-  cells_more = map_more key_cells ks i k within ∙ ap (λ (k : Key). map key_cells (take i ks) ++ key_cells k ∷ []) (sym read)
+  pub cells_more : take (i + 1) ks ≡ take i ks ++ k ∷ []
+  cells_more = take_more ks i k within ∙ ap (λ (k : List CellOf). take i ks ++ k ∷ []) (sym read)

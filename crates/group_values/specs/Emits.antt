@@ -3,10 +3,9 @@ use Rattle.std.specs.Prelude.{◌≡◌, ℕ, ◌+◌, ◌-◌, ◌≤◌, min, 
 use Rattle.std.proofs.Common.{sym, ap, ◌∙◌, inl, inr, arith}
 use Rattle.std.proofs.lemmas.List.{length-drop, length-map, length-take-le, take-append-le, drop-take, drop_all, drop-map}
 use Rattle.std.proofs.lemmas.Bool.{cases_lt}
-use Rattle.cells.specs.Emits.{left}
+use Rattle.cells.specs.Emits.{left, dropped}
 use Rattle.cells.specs.declared.emit_to.EmitTo.{EmitTo}
 use Rattle.cells.specs.declared.emit_to.EmitTo.TheVariants.{All, First}
-use Rattle.group_values.specs.Tables.{dropped}
 
 dropped-le : (e : EmitTo) (n : ℕ) → dropped e n ≤ n
 dropped-le All n = omega arith

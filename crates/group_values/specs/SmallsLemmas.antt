@@ -2,11 +2,11 @@
 use Rattle.std.specs.Prelude.{◌≡◌, ℕ, ◌+◌, ◌-◌, ◌<◌, ◌≤◌, List, [], ◌∷◌, ◌++◌, map, length, take, drop, slice_index_or, slice_set}
 use Rattle.std.proofs.Common.{sym, ap, ◌∙◌, subst, arith}
 use Rattle.std.proofs.lemmas.List.{length-map, length-take-le, take_more_set, map_push}
-use Rattle.cells.specs.Emits.{left}
+use Rattle.cells.specs.Emits.{left, dropped}
 use Rattle.cells.specs.declared.emit_to.EmitTo.{EmitTo}
 use Rattle.group_values.specs.Slots.{slot_key, Below, SlotIndex}
 use Rattle.group_values.specs.Smalls.{small_keys}
-use Rattle.group_values.specs.Tables.{Distinct, dropped}
+use Rattle.group_values.specs.Tables.{Distinct}
 use Rattle.group_values.specs.declared.small_table.GroupValuesSmall.{GroupValuesSmall}
 use Rattle.group_values.specs.Emits.{shifted, emit_leaves}
 use Rattle.group_values.specs.SlotsLemmas.{below_drop, index_push, slots_distinct, slots_room}

@@ -93,3 +93,7 @@ distinct-drop keys n d i j l h e =
 pub distinct-left : (e : EmitTo) (keys : List (List CellOf)) → Distinct keys → Distinct (left e keys)
 distinct-left All keys d = distinct_none
 distinct-left (First n) keys d = distinct-drop keys n d
+
+pub length-left : {X : Type 0} (e : EmitTo) (xs : List X) → length (left e xs) ≤ length xs
+length-left All xs = omega arith
+length-left (First n) xs = omega (arith, length-drop n xs)

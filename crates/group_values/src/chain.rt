@@ -1,7 +1,6 @@
 //! The index of the row table: chains of places by bucket. A link is 0, or one more than a place.
 
 ghost use Rattle.std.specs.Prelude.{◌≡◌, ◌+◌, ◌<◌, ◌≤◌, [], ◌∷◌, ◌++◌, map, length, vec_len, vec_capacity, slice_index, slice_set};
-ghost use Rattle.cells.specs.Keys.{key_cells};
 ghost use Rattle.group_values.specs.Chains.{Indexed, Found};
 
 use crate::hash::bucket;
@@ -9,8 +8,8 @@ use cells::Key;
 
 /// A place that holds the key, if one does.
 pub(crate) fn find(keys: &[Key], heads: &[u16], next: &[u16], key: &Key) -> Option<usize>
-    requires { (Indexed (map key_cells keys.now) heads.now next.now) × (length keys.now ≤ 512) }
-    ensures { Found (map key_cells keys.now) (key_cells key.now) result }
+    requires { (Indexed keys.now heads.now next.now) × (length keys.now ≤ 512) }
+    ensures { Found keys.now key.now result }
 {
     let mut link = heads[bucket(key)] as usize;
     while link > 0 {
@@ -39,7 +38,7 @@ pub(crate) fn add_link(heads: &mut [u16], next: &mut Vec<u16>, bucket: usize)
 /// Makes the index of the keys anew.
 pub(crate) fn rebuild(keys: &[Key], heads: &mut [u16], next: &mut Vec<u16>)
     requires { (length heads.old ≡ 1024) × ((length keys.now ≤ 512) × (512 ≤ vec_capacity next.old)) }
-    ensures indexed { Indexed (map key_cells keys.now) heads.new next.new.items }
+    ensures indexed { Indexed keys.now heads.new next.new.items }
     ensures capacity { vec_capacity next.new ≡ vec_capacity next.old }
 {
     heads.fill(0);

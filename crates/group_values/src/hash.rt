@@ -1,7 +1,6 @@
 //! The hash of a key's cells, and the bucket that it names.
 
 ghost use Rattle.std.specs.Prelude.{◌≡◌, ◌<◌};
-ghost use Rattle.cells.specs.Keys.{key_cells};
 ghost use Rattle.group_values.specs.Buckets.{mixed, mixed_cell, hash_of, bucket_of};
 
 use cells::{Cell, Key};
@@ -40,7 +39,7 @@ fn hash_cells(cells: &[Cell]) -> u64
 
 /// The bucket of a key: the ten highest bits, since keys that differ by a power of two share low ones.
 pub(crate) fn bucket(key: &Key) -> usize
-    ensures is { result ≡ bucket_of (key_cells key.now) }
+    ensures is { result ≡ bucket_of key.now }
     ensures bound { result < 1024 }
 {
     (hash_cells(key.as_slice()).wrapping_mul(SPREAD) >> 54) as usize

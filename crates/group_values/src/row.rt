@@ -6,7 +6,7 @@ ghost use Rattle.std.proofs.Common.{rules};
 ghost use Rattle.group_values.specs.RowsLemmas.{row_bounded};
 
 use crate::chain::{add_link, find, rebuild};
-use crate::group_values::{GroupValues, drop_count};
+use crate::group_values::GroupValues;
 use crate::hash::{BUCKETS, bucket};
 use crate::row_table::GroupValuesRows;
 use cells::{EmitTo, Key, MAX_GROUPS};
@@ -68,10 +68,7 @@ impl GroupValues for GroupValuesRows {
     }
 
     fn emit(&mut self, emit_to: EmitTo) {
-        let held = self.keys.len();
-        let count = drop_count(emit_to, held);
-        self.keys.rotate_left(count);
-        self.keys.truncate(held - count);
+        emit_to.shift(&mut self.keys);
         rebuild(&self.keys, &mut self.heads, &mut self.next);
     }
 }

@@ -1,7 +1,6 @@
 //! The row table, with what ties its parts.
 
 ghost use Rattle.std.specs.Prelude.{◌≤◌, map, vec_len, vec_capacity};
-ghost use Rattle.cells.specs.Keys.{key_cells};
 ghost use Rattle.group_values.specs.Tables.{Distinct};
 ghost use Rattle.group_values.specs.Chains.{Indexed};
 
@@ -15,7 +14,7 @@ pub struct GroupValuesRows {
     pub(crate) heads: [u16; 1024],
     /// The place before each place in its bucket, as a link.
     pub(crate) next: Vec<u16>,
-    ghost apart: { Distinct (map key_cells keys.items) },
-    ghost indexed: { Indexed (map key_cells keys.items) heads next.items },
+    ghost apart: { Distinct keys.items },
+    ghost indexed: { Indexed keys.items heads next.items },
     ghost room: { (vec_len keys ≤ 512) × (512 ≤ vec_capacity keys) × (512 ≤ vec_capacity next) },
 }

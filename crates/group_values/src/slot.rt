@@ -1,7 +1,6 @@
 //! The index of the small table: a slot for each key that it admits.
 
 ghost use Rattle.std.specs.Prelude.{◌≡◌, ◌≤◌, map, length};
-ghost use Rattle.cells.specs.Keys.{key_cells};
 ghost use Rattle.group_values.specs.Slots.{Below, Slot, SlotIndex, slot_key};
 ghost use Rattle.group_values.specs.Tables.{Distinct};
 
@@ -12,7 +11,7 @@ pub(crate) const SLOTS: usize = 65;
 
 /// The slot of a key that the small table admits.
 pub(crate) fn slot_of(key: &Key) -> Option<usize>
-    ensures { Slot (key_cells key.now) result }
+    ensures { Slot key.now result }
 {
     match key.as_slice() {
         [None] => Some(0),
@@ -23,7 +22,7 @@ pub(crate) fn slot_of(key: &Key) -> Option<usize>
 
 /// The key of a slot.
 pub(crate) fn slot_key(slot: u8) -> Key
-    ensures { key_cells result ≡ slot_key slot }
+    ensures { result ≡ slot_key slot }
 {
     let mut key = Key::new();
     if slot == 0 {

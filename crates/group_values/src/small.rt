@@ -6,7 +6,7 @@ ghost use Rattle.group_values.specs.Smalls.{small_keys};
 ghost use Rattle.group_values.specs.SlotsLemmas.{slots_distinct, slots_admitted};
 ghost use Rattle.group_values.specs.SmallsLemmas.{small_index, small_bounded};
 
-use crate::group_values::{GroupValues, drop_count};
+use crate::group_values::GroupValues;
 use crate::slot::{SLOTS, links_of, slot_key, slot_of};
 use crate::small_table::GroupValuesSmall;
 use cells::{EmitTo, Key};
@@ -65,7 +65,7 @@ impl GroupValues for GroupValuesSmall {
     }
 
     fn emit(&mut self, emit_to: EmitTo) {
-        let count = drop_count(emit_to, self.len);
+        let count = emit_to.count(self.len);
         let len = self.len - count;
         let mut slots = self.slots;
         slots.rotate_left(count);

@@ -1,8 +1,7 @@
 -- Each key is linked behind those before it.
-use Rattle.std.proofs.Common.{ℕ, ◌+◌, List, map, take, replicate, vec_items, vec_len, refl, ap, ◌∙◌, subst}
+use Rattle.std.proofs.Common.{ℕ, ◌+◌, List, take, replicate, vec_items, vec_len, refl, ap, ◌∙◌, subst}
 use Rattle.std.proofs.lemmas.List.{take_all}
-use Rattle.cells.specs.Keys.{key_cells}
-use Rattle.cells.specs.declared.key.Key.{Key}
+use Rattle.cells.specs.Rows.{CellOf}
 use Rattle.group_values.specs.Chains.{Indexed}
 use Rattle.group_values.proofs.Chains.{indexed_push}
 use Rattle.group_values.proofs.Slices.{cells_more}
@@ -20,7 +19,7 @@ loop-key-preserved c =
     let ks = c.args.keys.now in
     let i = c.loop-key.key-index in
     let k = c.key-item.result in (
-      indexed_push (map key_cells (take i ks)) (map key_cells (take (i + 1) ks)) (key_cells k) c.bucket.result (vec_len c.loop-key.next) c.loop-key.heads
+      indexed_push (take i ks) (take (i + 1) ks) k c.bucket.result (vec_len c.loop-key.next) c.loop-key.heads
           (vec_items c.loop-key.next) c.add_link.new.heads (vec_items c.add_link.new.next) (cells_more ks i k c.loop-key-test.true c.key-item.is)
           c.bucket.ensures.is c.loop-key.next.ok.0 c.add_link.ensures.heads c.add_link.ensures.next c.loop-key.invariant.0,
       c.add_link.ensures.len ∙ ap (λ (n : ℕ). n + 1) c.loop-key.invariant.1,
@@ -29,7 +28,7 @@ loop-key-preserved c =
 
 pub returns : goal.returns
 returns c = record {
-  indexed = subst (λ (ks : List Key). Indexed (map key_cells ks) c.loop-key.heads (vec_items c.loop-key.next))
+  indexed = subst (λ (ks : List (List CellOf)). Indexed ks c.loop-key.heads (vec_items c.loop-key.next))
       (take_all c.loop-key.key-index c.args.keys.now c.loop-key-test.false) c.loop-key.invariant.0;
   capacity = c.loop-key.invariant.2 ∙ c.clear.ensures.capacity;
 }

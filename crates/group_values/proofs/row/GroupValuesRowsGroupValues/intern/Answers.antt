@@ -1,24 +1,23 @@
 -- A key that is found stays where it is, and another is added while there is room.
-use Rattle.std.proofs.Common.{◌≡◌, ◌<◌, ◌≤◌, true, List, map, length, Some, vec_items, vec_len, sym, refl, ap, ◌∙◌, subst, arith}
-use Rattle.cells.specs.Keys.{key_cells}
-use Rattle.cells.specs.declared.key.Key.{Key}
+use Rattle.std.proofs.Common.{◌≡◌, ◌<◌, ◌≤◌, true, List, length, Some, vec_items, vec_len, sym, refl, ap, ◌∙◌, subst, arith}
+use Rattle.cells.specs.Rows.{CellOf}
 use Rattle.group_values.specs.Chains.{Found}
 use Rattle.group_values.specs.Rows.{row_keys}
 use Rattle.group_values.specs.Tables.{Absent, Distinct}
 use Rattle.group_values.proofs.Chains.{heads_length, next_length, indexed_push}
-use Rattle.group_values.specs.RowsLemmas.{row_length, row_pushed}
+use Rattle.group_values.specs.RowsLemmas.{row_length}
 use Rattle.group_values.specs.TablesLemmas.{interns_found, interns_new, interns_full, distinct_push}
 use Rattle.group_values.proofs.row.GroupValuesRowsGroupValues.intern.Goals as goal
 use Rattle.group_values.proofs.row.GroupValuesRowsGroupValues.intern.Goals.{In_default, at-returns-then-place-ge-MAX_GROUPS, at-invariant_of-self-2, at-returns}
 
-absent : (c : In_default) → Absent (row_keys c.args.self.now) (key_cells c.args.key.now)
-absent c = subst (λ (ks : List Key). Absent (map key_cells ks) (key_cells c.args.key.now)) c.deref.ensures.value c.in_default.ensures
+absent : (c : In_default) → Absent (row_keys c.args.self.now) c.args.key.now
+absent c = subst (λ (ks : List (List CellOf)). Absent ks c.args.key.now) c.deref.ensures.value c.in_default.ensures
 
 pub returns-in-Some : goal.returns-in-Some
 returns-in-Some c =
     let t = c.args.self.now in
-    let key = key_cells c.args.key.now in
-    let found = subst (λ (ks : List Key). Found (map key_cells ks) key (Some c.in-Some.place)) c.deref.ensures.value c.in-Some.ensures in
+    let key = c.args.key.now in
+    let found = subst (λ (ks : List (List CellOf)). Found ks key (Some c.in-Some.place)) c.deref.ensures.value c.in-Some.ensures in
     let i = interns_found (λ _. true) (row_keys t) key c.in-Some.place t.apart found.0 found.1 in
     record { answer = sym i.0; after = sym i.1 }
 
@@ -26,7 +25,7 @@ pub returns-then-place-ge-MAX_GROUPS : goal.returns-then-place-ge-MAX_GROUPS
 returns-then-place-ge-MAX_GROUPS c =
     let t = c.args.self.now in
     let full : 512 ≤ length (row_keys t) = omega (arith, row_length t, c.len-place.ensures, c.if-place-ge-MAX_GROUPS.true) in
-    let i = interns_full (λ _. true) (row_keys t) (key_cells c.args.key.now) (absent (at-returns-then-place-ge-MAX_GROUPS c).In_default) full in
+    let i = interns_full (λ _. true) (row_keys t) c.args.key.now (absent (at-returns-then-place-ge-MAX_GROUPS c).In_default) full in
     record { answer = sym i.0; after = sym i.1 }
 
 pub add_link-requires : goal.add_link-requires
@@ -40,11 +39,11 @@ add_link-requires c =
 pub invariant_of-self-2 : goal.invariant_of-self-2
 invariant_of-self-2 c =
     let t = c.args.self.now in
-    let key = key_cells c.args.key.now in
-    let pushed = row_pushed (vec_items t.keys) (vec_items c.push_reserved.new.self) c.args.key.now c.push_reserved.ensures.items in
+    let key = c.args.key.now in
+    let pushed = c.push_reserved.ensures.items in
     record {
       apart = subst Distinct (sym pushed) (distinct_push (row_keys t) key t.apart (absent (at-invariant_of-self-2 c).In_default));
-      indexed = indexed_push (row_keys t) (map key_cells (vec_items c.push_reserved.new.self)) key c.bucket.result (vec_len t.next) t.heads
+      indexed = indexed_push (row_keys t) ((vec_items c.push_reserved.new.self)) key c.bucket.result (vec_len t.next) t.heads
           (vec_items t.next) c.add_link.new.heads (vec_items c.add_link.new.next) pushed
           c.bucket.ensures.is t.next.ok.0 c.add_link.ensures.heads c.add_link.ensures.next t.indexed;
       room = (
@@ -58,8 +57,8 @@ pub returns : goal.returns
 returns c =
     let t = c.args.self.now in
     let at : c.len-place.result ≡ length (row_keys t) = c.len-place.ensures ∙ sym (row_length t) in
-    let i = interns_new (λ _. true) (row_keys t) (key_cells c.args.key.now) (absent (at-returns c).In_default) refl (omega (arith, at, c.if-place-ge-MAX_GROUPS.false)) in
+    let i = interns_new (λ _. true) (row_keys t) c.args.key.now (absent (at-returns c).In_default) refl (omega (arith, at, c.if-place-ge-MAX_GROUPS.false)) in
     record {
       answer = ap Some at ∙ sym i.0;
-      after = row_pushed (vec_items t.keys) (vec_items c.push_reserved.new.self) c.args.key.now c.push_reserved.ensures.items ∙ sym i.1;
+      after = c.push_reserved.ensures.items ∙ sym i.1;
     }

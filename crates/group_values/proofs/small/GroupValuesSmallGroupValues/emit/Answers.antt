@@ -7,19 +7,19 @@ use Rattle.group_values.proofs.small.GroupValuesSmallGroupValues.emit.Goals as g
 pub links_of-links-requires : goal.links_of-links-requires
 links_of-links-requires c =
     let t = c.args.self.now in
-    let count = c.drop_count-count.result in
+    let count = c.count-count.result in
     let n = t.len - count - 0 in
     let rotated = c.rotate_left.new.self in
     let rest : n ≡ t.len - count = omega arith in (
       omega (arith, length-take n rotated, t.sized.1),
       (
-        emitted_below t c.args.emit_to count n rotated c.drop_count-count.ensures c.rotate_left.ensures.after rest,
-        emitted_distinct t c.args.emit_to count n rotated c.drop_count-count.ensures c.rotate_left.ensures.after rest,
+        emitted_below t c.args.emit_to count n rotated c.count-count.ensures c.rotate_left.ensures.after rest,
+        emitted_distinct t c.args.emit_to count n rotated c.count-count.ensures c.rotate_left.ensures.after rest,
       ),
     )
 
 pub returns : goal.returns
 returns c =
     let t = c.args.self.now in
-    let count = c.drop_count-count.result in
-    small_emitted t c.args.emit_to count (t.len - count) c.rotate_left.new.self c.drop_count-count.ensures c.rotate_left.ensures.after refl
+    let count = c.count-count.result in
+    small_emitted t c.args.emit_to count (t.len - count) c.rotate_left.new.self c.count-count.ensures c.rotate_left.ensures.after refl

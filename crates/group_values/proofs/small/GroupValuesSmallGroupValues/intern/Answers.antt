@@ -1,7 +1,6 @@
 -- A key without a slot stays out, a slot with a link is found, and one without is added.
 use Rattle.std.proofs.Common.{◌≡◌, ◌-◌, ◌<◌, [], ◌∷◌, ◌++◌, length, get_or, take, Some, sym, ap, ◌∙◌, subst, arith}
 use Rattle.std.proofs.lemmas.List.{length-set}
-use Rattle.cells.specs.Keys.{key_cells}
 use Rattle.group_values.specs.Slots.{small_key}
 use Rattle.group_values.specs.Smalls.{small_keys}
 use Rattle.group_values.specs.Tables.{Absent}
@@ -13,7 +12,7 @@ use Rattle.group_values.proofs.small.GroupValuesSmallGroupValues.intern.Goals as
 pub returns-in_err-slot : goal.returns-in_err-slot
 returns-in_err-slot c =
     let t = c.args.self.now in
-    let key = key_cells c.args.key.now in
+    let key = c.args.key.now in
     let out = c.in_err-slot.ensures in
     let absent = absent_out small_key (small_keys t) key (slots_admitted (take t.len t.slots) t.links (small_index t)) out in
     let i = interns_out small_key (small_keys t) key absent out in
@@ -24,7 +23,7 @@ returns-then-link-gt0 c =
     let t = c.args.self.now in
     let slots = take t.len t.slots in
     let s = c.in_ok-slot.slot in
-    let key = key_cells c.args.key.now in
+    let key = c.args.key.now in
     let found = slots_found slots t.links (small_index t) s c.if-link-gt0.true in
     let held = found.1 ∙ sym c.in_ok-slot.ensures.1 in
     let apart = slots_distinct slots t.links (small_index t) in
@@ -56,7 +55,7 @@ returns c =
     let s = c.in_ok-slot.slot in
     let small = c.in_ok-slot.ensures in
     let free : get_or t.links s 0 ≡ 0 = omega (arith, c.if-link-gt0.false) in
-    let key = key_cells c.args.key.now in
+    let key = c.args.key.now in
     let same = small.1 in
     let absent = subst (Absent (small_keys t)) (sym same) (slots_absent (take t.len t.slots) t.links (small_index t) s free) in
     let few : length (small_keys t) < 512 = omega (arith, small_length t, t.sized.1) in
