@@ -1,5 +1,4 @@
 pub mod Rows
 pub mod Flags
-pub mod Alike
 pub mod Same
 pub mod Filled
