@@ -5,7 +5,7 @@ use Rattle.std.specs.Option.{option_eq}
 use Rattle.std.specs.Ordering.{int_eq}
 use Rattle.std.specs.Cmp.Lexicographic.{pointwise}
 use Rattle.cells.specs.Rows.{CellOf}
-use Rattle.cells.proofs.Alike.{cells_decide}
+use Rattle.cells.specs.Alike.{cells_decide}
 use Rattle.cells.specs.Keys.{key_cells}
 use Rattle.order.specs.declared.partial.Run.{Run}
 use Rattle.order.specs.Runs.{sort_keys}
