@@ -10,7 +10,7 @@ use Rattle.std.proofs.lemmas.List.Recursion.{and_from_places}
 use Rattle.cells.specs.Rows.{CellOf}
 use Rattle.cells.specs.Same.{same_key}
 use Rattle.cells.proofs.Same.{key_decides}
-use Rattle.cells.proofs.Alike.{cells_decide}
+use Rattle.cells.specs.Alike.{cells_decide}
 use Rattle.order.specs.Runs.{sort_key, sort_keys, all_same, last_run, LastRun}
 use Rattle.order.proofs.SortKeys.{get_or-sort_keys, length-sort_keys}
 
