@@ -1,6 +1,6 @@
 //! The calls of a batch.
 
-ghost use Rattle.std.specs.Prelude.{◌≡◌, [], length, None, position, nat_lt, slice_index_or};
+ghost use Rattle.std.specs.Prelude.{◌≡◌, ◌≤◌, [], length, None, position, nat_lt, slice_index_or};
 ghost use Rattle.cells.specs.Refusals.{batch_refusal};
 ghost use Rattle.cells.specs.Views.{Views, view_rows};
 
@@ -57,7 +57,8 @@ impl<'v, 'f> Batch<'v, 'f> {
 
     /// How many rows the batch has.
     pub fn num_rows(&self) -> usize
-        ensures { result ≡ length (view_rows self.now) }
+        ensures value { result ≡ length (view_rows self.now) }
+        ensures bound { result ≤ 512 }
     {
         self.rows
     }

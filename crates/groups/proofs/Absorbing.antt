@@ -15,25 +15,9 @@ pub groups_same : {S : Type 0} {k k' : List (List CellOf)} {s s' : List S} {o o'
 groups_same {S} {k} {k'} {s} {s'} {o} {o'} p q r =
     ap (λ (x : List (List CellOf)). groups x s o) p ∙ ap (λ (x : List S). groups k' x o) q ∙ ap (λ (x : Order). groups k' s' x) r
 
-module _ {S : Type 0} (a : Aggregation S) (exprs : List AggregateExpr) (rows : List (List CellOf)) where
-  fed-front : (n i : ℕ) (ss : List S) (places : List ℕ) → i + length places ≤ 512 → fed_from a exprs rows n i ss places ≡ fed_from a exprs (take 512 rows) n i ss places
-  fed-front n i ss [] l = refl
-  fed-front n i ss (p ∷ places) l =
-      let read : get_or rows i [] ≡ get_or (take 512 rows) i [] = sym (get_or-take 512 rows i [] (omega arith)) in
-      ap (λ (row : List CellOf). fed_from a exprs rows n (i + 1) (fed a n p (a.own exprs row) ss) places) read
-      ∙ fed-front n (i + 1) (fed a n p (a.own exprs (get_or (take 512 rows) i [])) ss) places (omega arith)
-
-  -- rows past the 512th have no place
-  pub updated-front : (places : List ℕ) (total : ℕ) (ss : List S) → length places ≤ 512 → updated a exprs rows places total ss ≡ updated a exprs (take 512 rows) places total ss
-  updated-front places total ss l = fed-front (min total 512) 0 (grown a.neutral (min total 512) ss) places (omega arith)
-
-length-placed : (admitted : List CellOf → Bool) (keys ks : List (List CellOf)) → length (placed_all admitted keys ks) ≡ length ks
-length-placed admitted keys [] = refl
-length-placed admitted keys (k ∷ ks) = ap suc (length-placed admitted (interned admitted keys k) ks)
-
 module _ {S : Type 0} (u : Setup S) (g : Groups S) (rows : List (List CellOf)) (s : ℕ) where
   abbrev ks : List (List CellOf)
-  ks = map (row_key u.settings s) (take 512 rows)
+  ks = map (row_key u.settings s) rows
 
   -- one set: the table, the states and the order after it
   module _ (table kept : List (List CellOf)) (places : List ℕ) (before total : ℕ) (states : List S) (order : Order)
@@ -43,19 +27,16 @@ module _ {S : Type 0} (u : Setup S) (g : Groups S) (rows : List (List CellOf)) (
     all : total ≡ length (interned_all u.admitted g.keys ks)
     all = has ∙ ap length interned-is
 
-    few : length places ≤ 512
-    few = omega (arith, ap length placed-is, length-placed u.admitted g.keys ks, length-map (take 512 rows) (row_key u.settings s), length-take 512 rows)
-
-    states_are : states ≡ updated u.aggregation u.settings.exprs (take 512 rows) (placed_all u.admitted g.keys ks) (length (interned_all u.admitted g.keys ks)) g.states
+    states_are : states ≡ updated u.aggregation u.settings.exprs rows (placed_all u.admitted g.keys ks) (length (interned_all u.admitted g.keys ks)) g.states
     states_are =
-        fed-is ∙ updated-front u.aggregation u.settings.exprs rows places total g.states few
-        ∙ ap (λ (ps : List ℕ). updated u.aggregation u.settings.exprs (take 512 rows) ps total g.states) placed-is
-        ∙ ap (λ (n : ℕ). updated u.aggregation u.settings.exprs (take 512 rows) (placed_all u.admitted g.keys ks) n g.states) all
+        fed-is
+        ∙ ap (λ (ps : List ℕ). updated u.aggregation u.settings.exprs rows ps total g.states) placed-is
+        ∙ ap (λ (n : ℕ). updated u.aggregation u.settings.exprs rows (placed_all u.admitted g.keys ks) n g.states) all
 
     abbrev ordered : ℕ → ℕ → Order
     ordered b t = reordered g.order b ks (placed_all u.admitted g.keys ks) t
 
-    pub set_opens : before < total → order ≡ opened g.order kept places total → groups table states order ≡ absorbed_set u g (take 512 rows) s
+    pub set_opens : before < total → order ≡ opened g.order kept places total → groups table states order ≡ absorbed_set u g rows s
     set_opens l e =
         groups_same interned-is states_are
         (e
@@ -65,7 +46,7 @@ module _ {S : Type 0} (u : Setup S) (g : Groups S) (rows : List (List CellOf)) (
         ∙ ap (λ (b : ℕ). ordered b total) had
         ∙ ap (λ (t : ℕ). ordered (length g.keys) t) all)
 
-    pub set_opens_none : total ≤ before → order ≡ g.order → groups table states order ≡ absorbed_set u g (take 512 rows) s
+    pub set_opens_none : total ≤ before → order ≡ g.order → groups table states order ≡ absorbed_set u g rows s
     set_opens_none l e =
         groups_same interned-is states_are
         (e

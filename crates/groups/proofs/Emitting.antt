@@ -2,7 +2,7 @@
 use Rattle.std.proofs.Common.{◌≡◌, ℕ, zero, suc, ◌+◌, ◌<◌, ◌≤◌, min, Bool, true, cond, ltb, List, [], ◌∷◌, ◌++◌, length, get_or, take, sym, refl, ap, ◌∙◌, inl, inr, arith}
 use Rattle.std.proofs.lemmas.List.{take_more, take_all, take-map, length-map, get_or-map}
 use Rattle.std.proofs.lemmas.Bool.{lt-ltb, cases_lt}
-use Rattle.group_values.specs.Tables.{dropped}
+use Rattle.cells.specs.Emits.{dropped}
 use Rattle.cells.specs.declared.emit_to.EmitTo.{EmitTo}
 use Rattle.cells.specs.declared.emit_to.EmitTo.TheVariants.{All, First}
 use Rattle.cells.specs.Rows.{CellOf}

@@ -1,9 +1,7 @@
 -- The rows of a batch are interned one after the other.
 use Rattle.std.proofs.Common.{◌≡◌, ℕ, ◌+◌, ◌<◌, ◌≤◌, min, Bool, List, [], ◌∷◌, ◌++◌, map, length, get_or, take, Option, unwrap_or, sym, refl, ap, ◌∙◌, arith}
 use Rattle.std.proofs.lemmas.List.{length-map, length-take, take_more, take_all, get_or-map, get_or-take, map_push}
-use Rattle.cells.specs.declared.key.Key.{Key}
 use Rattle.cells.specs.Rows.{CellOf}
-use Rattle.cells.specs.Keys.{key_cells}
 use Rattle.group_values.specs.Tables.{interned, placed}
 use Rattle.model.specs.Machine.{interned_all, placed_all}
 
@@ -19,35 +17,35 @@ module _ (admitted : List CellOf → Bool) where
 
 -- what the loop has made of the first i keys of ks: the table's keys, the keys kept and the places kept
 pub record Interned (admitted : List CellOf → Bool) (before : List (List CellOf)) (ks : List (List CellOf)) (i : ℕ)
-    (table : List (List CellOf)) (kept : List Key) (places : List ℕ) : Type 0 where
+    (table : List (List CellOf)) (kept : List (List CellOf)) (places : List ℕ) : Type 0 where
   pub keys : table ≡ interned_all admitted before (take i ks)
-  pub keeps : map key_cells kept ≡ take i ks
+  pub keeps : kept ≡ take i ks
   pub places_are : places ≡ placed_all admitted before (take i ks)
 
 module _ (admitted : List CellOf → Bool) (before ks : List (List CellOf)) where
   pub interned-none : Interned admitted before ks 0 before [] []
   interned-none = record { keys = refl; keeps = refl; places_are = refl }
 
-  module _ (i : ℕ) (table : List (List CellOf)) (kept : List Key) (places : List ℕ) (so_far : Interned admitted before ks i table kept places) where
-    pub interned-more : (key : Key) (table' : List (List CellOf)) (o : Option ℕ) (kept' : List Key) (place : ℕ) (places' : List ℕ) → i < length ks
-        → key_cells key ≡ get_or ks i [] → table' ≡ interned admitted table (key_cells key) → o ≡ placed admitted table (key_cells key)
+  module _ (i : ℕ) (table : List (List CellOf)) (kept : List (List CellOf)) (places : List ℕ) (so_far : Interned admitted before ks i table kept places) where
+    pub interned-more : (key : List CellOf) (table' : List (List CellOf)) (o : Option ℕ) (kept' : List (List CellOf)) (place : ℕ) (places' : List ℕ) → i < length ks
+        → key ≡ get_or ks i [] → table' ≡ interned admitted table key → o ≡ placed admitted table key
         → place ≡ unwrap_or o 512 → kept' ≡ kept ++ key ∷ [] → places' ≡ places ++ place ∷ []
         → Interned admitted before ks (i + 1) table' kept' places'
     interned-more key table' o kept' place places' l at entered found given kept-is places_is =
-        let step : take i ks ++ key_cells key ∷ [] ≡ take (i + 1) ks = ap (λ (k : List CellOf). take i ks ++ k ∷ []) at ∙ sym (take_more ks i [] l) in
+        let step : take i ks ++ key ∷ [] ≡ take (i + 1) ks = ap (λ (k : List CellOf). take i ks ++ k ∷ []) at ∙ sym (take_more ks i [] l) in
         record {
           keys =
-              entered ∙ ap (λ (t : List (List CellOf)). interned admitted t (key_cells key)) so_far.keys
-              ∙ sym (interned_all-push admitted before (take i ks) (key_cells key))
+              entered ∙ ap (λ (t : List (List CellOf)). interned admitted t key) so_far.keys
+              ∙ sym (interned_all-push admitted before (take i ks) key)
               ∙ ap (interned_all admitted before) step;
           keeps =
-              ap (map key_cells) kept-is ∙ map_push key_cells kept key
-              ∙ ap (λ (xs : List (List CellOf)). xs ++ key_cells key ∷ []) so_far.keeps ∙ step;
+              ap (map key_cells) kept-is ∙ map_push kept key
+              ∙ ap (λ (xs : List (List CellOf)). xs ++ key ∷ []) so_far.keeps ∙ step;
           places_are =
               places_is
-              ∙ ap (λ (p : ℕ). places ++ p ∷ []) (given ∙ ap (λ (x : Option ℕ). unwrap_or x 512) (found ∙ ap (λ (t : List (List CellOf)). placed admitted t (key_cells key)) so_far.keys))
-              ∙ ap (λ (ps : List ℕ). ps ++ unwrap_or (placed admitted (interned_all admitted before (take i ks)) (key_cells key)) 512 ∷ []) so_far.places_are
-              ∙ sym (placed_all-push admitted before (take i ks) (key_cells key))
+              ∙ ap (λ (p : ℕ). places ++ p ∷ []) (given ∙ ap (λ (x : Option ℕ). unwrap_or x 512) (found ∙ ap (λ (t : List (List CellOf)). placed admitted t key) so_far.keys))
+              ∙ ap (λ (ps : List ℕ). ps ++ unwrap_or (placed admitted (interned_all admitted before (take i ks)) key) 512 ∷ []) so_far.places_are
+              ∙ sym (placed_all-push admitted before (take i ks) key)
               ∙ ap (placed_all admitted before) step;
         }
 
@@ -59,13 +57,3 @@ module _ (admitted : List CellOf → Bool) (before ks : List (List CellOf)) wher
           keeps = so_far.keeps ∙ whole;
           places_are = so_far.places_are ∙ ap (placed_all admitted before) whole;
         }
-
--- the key of row i among the keys of the first 512 rows
-pub key_at : (f : List CellOf → List CellOf) (rows : List (List CellOf)) (i : ℕ) → i < length rows → i < 512
-    → f (get_or rows i []) ≡ get_or (map f (take 512 rows)) i []
-key_at f rows i l m =
-    ap f (sym (get_or-take 512 rows i [] m))
-    ∙ sym (get_or-map f (take 512 rows) i [] [] (omega (arith, length-take 512 rows)))
-
-pub keys_length : (f : List CellOf → List CellOf) (rows : List (List CellOf)) → length (map f (take 512 rows)) ≡ min 512 (length rows)
-keys_length f rows = length-map (take 512 rows) f ∙ length-take 512 rows

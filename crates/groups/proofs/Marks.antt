@@ -13,7 +13,7 @@ use Rattle.group_by.specs.Marks.{digits, width_of}
 use Rattle.group_by.specs.Ids.{bits_of, group_id_fault, group_id, id_of, unless}
 use Rattle.group_by.specs.Groupings.{group_by, masked_key}
 use Rattle.group_by.specs.Sets.{sets_of, same_marks, ordinal_of, id_at, ids}
-use Rattle.group_by.proofs.KeyCells.{pushed}
+use Rattle.cells.proofs.Pushing.{pushed}
 use Rattle.group_by.proofs.Numbers.{digits_are}
 use Rattle.model.specs.Questions.{every, all_masked, masks_ok}
 use Rattle.model.specs.Setups.{Setup}

@@ -1,7 +1,6 @@
 //! The question on grouping sets.
 
 ghost use Rattle.std.specs.Prelude.{◌≡◌, ◌<◌, ◌≤◌, true, false, [], length, replicate, slice_index_or};
-ghost use Rattle.cells.specs.Keys.{key_cells};
 ghost use Rattle.group_by.specs.Sets.{sets_of, same_marks, id_at};
 ghost use Rattle.group_by.specs.Groupings.{group_by as grouping_of, masked_key};
 ghost use Rattle.model.specs.Questions.{every, sets_ok, masks_ok};
@@ -54,7 +53,7 @@ fn set_id(groups: &[Vec<bool>], set: usize) -> i64
 /// The key of a row that a set masks whole.
 fn masked_key(group_by: &PhysicalGroupBy, set: usize) -> Key
     requires { Sized (grouping_of group_by.now) × (set < length (grouping_of group_by.now).sets) }
-    ensures { (grouping_of group_by.now).grouped ≡ true → key_cells result ≡ masked_key (grouping_of group_by.now) set }
+    ensures { (grouping_of group_by.now).grouped ≡ true → result ≡ masked_key (grouping_of group_by.now) set }
 {
     let mut key = Key::new();
     for _ in 0..group_by.columns.len() {

@@ -2,12 +2,14 @@
 
 ghost use Rattle.std.specs.Prelude.{◌≤◌, vec_capacity};
 
+use accumulators::GroupsAccumulator;
 use cells::Key;
+use group_values::GroupValues;
 use order::GroupOrdering;
 
 /// The groups that are held, and the buffers of the batch at hand.
 #[derive(Drop)]
-pub struct HeldGroups<G, A> {
+pub struct HeldGroups<G: GroupValues, A: GroupsAccumulator> {
     pub(crate) group_values: G,
     pub(crate) accumulator: A,
     pub(crate) group_ordering: GroupOrdering,

@@ -2,11 +2,8 @@
 //!
 //! Ported from datafusion-physical-plan 55.0.0, src/aggregates/grouped_hash_stream.rs, and changed.
 
-ghost use Rattle.std.specs.Prelude.{◌≡◌, ℕ, ◌≤◌, true, [], map, length, take, slice_index_or};
-ghost use Rattle.cells.specs.Keys.{key_cells};
+ghost use Rattle.std.specs.Prelude.{◌≡◌, ℕ, ◌≤◌, true, [], map, length, slice_index_or};
 ghost use Rattle.cells.specs.Views.{view_rows};
-ghost use Rattle.group_values.specs.Tables.{dropped};
-ghost use Rattle.output.specs.Rows.{row_cells};
 ghost use Rattle.output.specs.Waits.{waiting_rows};
 ghost use Rattle.accumulators.specs.Groups.{updated};
 ghost use Rattle.order.specs.Orders.{done};
@@ -20,22 +17,22 @@ ghost use Rattle.groups.specs.Held.{held_of, Narrow};
 use crate::held::HeldGroups;
 use crate::plan::{AggregateMode, Plan};
 use accumulators::GroupsAccumulator;
-use cells::{Batch, EmitTo, MAX_BATCH_ROWS, MAX_GROUPS};
+use cells::{Batch, EmitTo, MAX_GROUPS};
 use group_values::GroupValues;
-use output::{OutputRow, Waiting};
+use output::{OutputRow, Waiting, converted_row, result_row, state_row};
 
 impl<G: GroupValues, A: GroupsAccumulator> HeldGroups<G, A> {
     /// Interns the keys of the batch's rows for a set, and keeps keys and places.
     fn intern_rows(&mut self, plan: &Plan, batch: &Batch<'_, '_>, set: usize)
-        ensures table { G.keys self.new.group_values ≡ interned_all G.admitted (G.keys self.old.group_values) (map (row_key (settings_of plan.now) set) (take 512 (view_rows batch.now))) }
-        ensures keys { map key_cells self.new.current_group_keys.items ≡ map (row_key (settings_of plan.now) set) (take 512 (view_rows batch.now)) }
-        ensures places { self.new.current_group_indices.items ≡ placed_all G.admitted (G.keys self.old.group_values) (map (row_key (settings_of plan.now) set) (take 512 (view_rows batch.now))) }
+        ensures table { G.keys self.new.group_values ≡ interned_all G.admitted (G.keys self.old.group_values) (map (row_key (settings_of plan.now) set) (view_rows batch.now)) }
+        ensures keys { self.new.current_group_keys.items ≡ map (row_key (settings_of plan.now) set) (view_rows batch.now) }
+        ensures places { self.new.current_group_indices.items ≡ placed_all G.admitted (G.keys self.old.group_values) (map (row_key (settings_of plan.now) set) (view_rows batch.now)) }
         ensures accumulator { self.new.accumulator ≡ self.old.accumulator }
         ensures ordering { self.new.group_ordering ≡ self.old.group_ordering }
     {
         self.current_group_keys.clear();
         self.current_group_indices.clear();
-        for row in 0..batch.num_rows().min(MAX_BATCH_ROWS) {
+        for row in 0..batch.num_rows() {
             let key = plan.row_key(batch, row, set);
             let place = self.group_values.intern(&key).unwrap_or(MAX_GROUPS);
             self.current_group_keys.push_reserved(key);
@@ -45,7 +42,7 @@ impl<G: GroupValues, A: GroupsAccumulator> HeldGroups<G, A> {
 
     /// The batch's rows are interned and accumulated under their keys for a set.
     pub fn absorb_set(&mut self, plan: &Plan, batch: &Batch<'_, '_>, set: usize)
-        ensures { held_of G.keys A.states self.new ≡ absorbed_set (setup_of A.aggregation G.admitted plan.now) (held_of G.keys A.states self.old) (take 512 (view_rows batch.now)) set }
+        ensures { held_of self.new ≡ absorbed_set (setup_of A.aggregation G.admitted plan.now) (held_of self.old) (view_rows batch.now) set }
     {
         let starting_num_groups = self.group_values.len();
         self.intern_rows(plan, batch, set);
@@ -67,7 +64,7 @@ impl<G: GroupValues, A: GroupsAccumulator> HeldGroups<G, A> {
 
     /// The same for each set, one after the other.
     pub fn absorb(&mut self, plan: &Plan, batch: &Batch<'_, '_>)
-        ensures { held_of G.keys A.states self.new ≡ absorbed (setup_of A.aggregation G.admitted plan.now) (held_of G.keys A.states self.old) (take 512 (view_rows batch.now)) }
+        ensures { held_of self.new ≡ absorbed (setup_of A.aggregation G.admitted plan.now) (held_of self.old) (view_rows batch.now) }
     {
         for set in 0..plan.num_sets() {
             self.absorb_set(plan, batch, set);
@@ -94,7 +91,7 @@ impl<G: GroupValues, A: GroupsAccumulator> HeldGroups<G, A> {
 
     /// The input is at its end: all groups are finished, and where none is held the totals are made.
     pub fn end(&mut self, plan: &Plan)
-        ensures { held_of G.keys A.states self.new ≡ totalled (setup_of A.aggregation G.admitted plan.now) (groups (G.keys self.old.group_values) (A.states self.old.accumulator) (done (order_of self.old.group_ordering))) }
+        ensures { held_of self.new ≡ totalled (setup_of A.aggregation G.admitted plan.now) (groups (G.keys self.old.group_values) (A.states self.old.accumulator) (done (order_of self.old.group_ordering))) }
     {
         self.group_ordering.input_done();
         if self.group_values.is_empty() {
@@ -104,7 +101,7 @@ impl<G: GroupValues, A: GroupsAccumulator> HeldGroups<G, A> {
 
     /// The groups that go out are gone, and the others move down.
     pub fn shed(&mut self, emit_to: EmitTo)
-        ensures { held_of G.keys A.states self.new ≡ shed emit_to (held_of G.keys A.states self.old) }
+        ensures { held_of self.new ≡ shed emit_to (held_of self.old) }
     {
         self.group_values.emit(emit_to);
         self.accumulator.emit(emit_to);
@@ -115,14 +112,14 @@ impl<G: GroupValues, A: GroupsAccumulator> HeldGroups<G, A> {
 
     /// How many groups are held.
     pub fn len(&self) -> usize
-        ensures { result ≡ length (held_of G.keys A.states self.now).keys }
+        ensures { result ≡ length (held_of self.now).keys }
     {
         self.group_values.len()
     }
 
     /// The bytes that the groups need, if a state's cells are few.
     pub fn need(&self, plan: &Plan) -> usize
-        ensures { Narrow A.aggregation → result ≡ need (setup_of A.aggregation G.admitted plan.now) (length (held_of G.keys A.states self.now).keys) }
+        ensures { Narrow A.aggregation → result ≡ need (setup_of A.aggregation G.admitted plan.now) (length (held_of self.now).keys) }
     {
         let cells = plan.key_width().saturating_add(A::state_cells());
         self.group_values
@@ -149,43 +146,33 @@ impl<G: GroupValues, A: GroupsAccumulator> HeldGroups<G, A> {
 
     /// A group as it goes out: its key, and behind it its state or its results.
     fn row(&self, plan: &Plan, group: usize) -> OutputRow
-        ensures { Narrow A.aggregation → row_cells result ≡ out_row (setup_of A.aggregation G.admitted plan.now) (slice_index_or (G.keys self.now.group_values) group []) (slice_index_or (A.states self.now.accumulator) group A.aggregation.neutral) }
+        ensures { Narrow A.aggregation → result ≡ out_row (setup_of A.aggregation G.admitted plan.now) (slice_index_or (G.keys self.now.group_values) group []) (slice_index_or (A.states self.now.accumulator) group A.aggregation.neutral) }
     {
         let key = self.group_values.key(group);
         match plan.mode {
-            AggregateMode::Partial => OutputRow::of_state(&key, &self.accumulator, group),
-            AggregateMode::Single => OutputRow::of_results(&key, &self.accumulator, group),
-        }
-    }
-
-    /// How many groups go out.
-    fn emitted(&self, emit_to: EmitTo) -> usize
-        ensures { result ≡ dropped emit_to (length (G.keys self.now.group_values)) }
-    {
-        match emit_to {
-            EmitTo::All => self.group_values.len(),
-            EmitTo::First(n) => n.min(self.group_values.len()),
+            AggregateMode::Partial => state_row(&key, &self.accumulator, group),
+            AggregateMode::Single => result_row(&key, &self.accumulator, group),
         }
     }
 
     /// Puts the groups that go out to wait, in the place of whatever waited.
     pub fn write_rows(&self, plan: &Plan, emit_to: EmitTo, waiting: &mut Waiting)
-        ensures { Narrow A.aggregation → waiting_rows waiting.new ≡ emission (setup_of A.aggregation G.admitted plan.now) emit_to (held_of G.keys A.states self.now) }
+        ensures { Narrow A.aggregation → waiting_rows waiting.new ≡ emission (setup_of A.aggregation G.admitted plan.now) emit_to (held_of self.now) }
     {
         waiting.clear();
-        for group in 0..self.emitted(emit_to) {
+        for group in 0..emit_to.count(self.group_values.len()) {
             waiting.push(self.row(plan, group));
         }
     }
 
     /// Puts the rows of a batch to wait, each with its own state, in the place of whatever waited.
     pub fn convert_rows(&self, plan: &Plan, batch: &Batch<'_, '_>, waiting: &mut Waiting)
-        ensures { Narrow A.aggregation → is_partial plan.now.mode ≡ true → waiting_rows waiting.new ≡ converted (setup_of A.aggregation G.admitted plan.now) (take 512 (view_rows batch.now)) }
+        ensures { Narrow A.aggregation → is_partial plan.now.mode ≡ true → waiting_rows waiting.new ≡ converted (setup_of A.aggregation G.admitted plan.now) (view_rows batch.now) }
     {
         waiting.clear();
-        for row in 0..batch.num_rows().min(MAX_BATCH_ROWS) {
+        for row in 0..batch.num_rows() {
             let key = plan.row_key(batch, row, 0);
-            waiting.push(OutputRow::of_row(&key, &self.accumulator, batch, &plan.exprs, row));
+            waiting.push(converted_row(&key, &self.accumulator, batch, &plan.exprs, row));
         }
     }
 }

@@ -12,14 +12,14 @@ use group_values::GroupValues;
 impl<G: GroupValues, A: GroupsAccumulator> HeldGroups<G, A> {
     /// The groups that are finished, if any are.
     pub fn emit_to(&self) -> Option<EmitTo>
-        ensures { result ≡ emit_to (held_of G.keys A.states self.now).order }
+        ensures { result ≡ emit_to (held_of self.now).order }
     {
         self.group_ordering.emit_to()
     }
 
     /// The groups to emit where memory is refused and `n` of them are wanted.
     pub fn oom_emit_to(&self, n: usize) -> Option<EmitTo>
-        ensures { result ≡ oom_emit_to (held_of G.keys A.states self.now).order n }
+        ensures { result ≡ oom_emit_to (held_of self.now).order n }
     {
         self.group_ordering.oom_emit_to(n)
     }

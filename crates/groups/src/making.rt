@@ -2,16 +2,31 @@
 //!
 //! Ported from datafusion-physical-plan 55.0.0, src/aggregates/grouped_hash_stream.rs, and changed.
 
-ghost use Rattle.std.specs.Prelude.{◌≡◌};
-ghost use Rattle.order.specs.Tracked.{mode_of};
+ghost use Rattle.std.specs.Prelude.{◌≡◌, ◌≤◌, IfOk, vec_capacity};
+ghost use Rattle.order.specs.Orders.{start};
+ghost use Rattle.order.specs.Tracked.{order_of, mode_of};
 ghost use Rattle.groups.specs.Held.{HasHeld};
 
 use crate::held::{HeldGroups, HeldRefused};
 use accumulators::GroupsAccumulator;
-use cells::MAX_BATCH_ROWS;
+use cells::{Key, MAX_BATCH_ROWS};
 use group_values::GroupValues;
 use order::{GroupOrdering, InputOrderMode};
-use std::alloc::Global;
+use std::alloc::{AllocError, Global};
+
+/// The ordering before any group, and room for the keys and the places of a batch.
+fn buffers(
+    heap: Global,
+    order: &InputOrderMode,
+) -> Result<(GroupOrdering, Vec<Key>, Vec<usize>), AllocError>
+    ensures ordering { IfOk result (λ b. order_of b.0 ≡ start (mode_of order.now)) }
+    ensures room { IfOk result (λ b. (512 ≤ vec_capacity b.1) × (512 ≤ vec_capacity b.2)) }
+{
+    let group_ordering = GroupOrdering::try_new(heap, order)?;
+    let keys = Vec::with_capacity(heap, MAX_BATCH_ROWS)?;
+    let places = Vec::with_capacity(heap, MAX_BATCH_ROWS)?;
+    Ok((group_ordering, keys, places))
+}
 
 impl<G: GroupValues, A: GroupsAccumulator> HeldGroups<G, A> {
     /// The groups of a table and of an accumulator, with buffers for a batch; the two come back where there is no
@@ -24,31 +39,19 @@ impl<G: GroupValues, A: GroupsAccumulator> HeldGroups<G, A> {
     ) -> Result<HeldGroups<G, A>, HeldRefused<G, A>>
         ensures { HasHeld group_values accumulator (mode_of order.now) result }
     {
-        let Ok(group_ordering) = GroupOrdering::try_new(heap, order) else {
-            return Err(HeldRefused {
+        match buffers(heap, order) {
+            Ok((group_ordering, current_group_keys, current_group_indices)) => Ok(HeldGroups {
                 group_values,
                 accumulator,
-            });
-        };
-        let Ok(current_group_keys) = Vec::with_capacity(heap, MAX_BATCH_ROWS) else {
-            return Err(HeldRefused {
+                group_ordering,
+                current_group_keys,
+                current_group_indices,
+            }),
+            Err(AllocError) => Err(HeldRefused {
                 group_values,
                 accumulator,
-            });
-        };
-        let Ok(current_group_indices) = Vec::with_capacity(heap, MAX_BATCH_ROWS) else {
-            return Err(HeldRefused {
-                group_values,
-                accumulator,
-            });
-        };
-        Ok(HeldGroups {
-            group_values,
-            accumulator,
-            group_ordering,
-            current_group_keys,
-            current_group_indices,
-        })
+            }),
+        }
     }
 
     /// The table of the groups' keys.

@@ -1,7 +1,6 @@
 //! The calls of a plan.
 
 ghost use Rattle.std.specs.Prelude.{◌≡◌, [], length, slice_index_or};
-ghost use Rattle.cells.specs.Keys.{key_cells};
 ghost use Rattle.cells.specs.Views.{view_rows};
 ghost use Rattle.group_by.specs.Groupings.{masked_key};
 ghost use Rattle.model.specs.Questions.{all_masked};
@@ -22,7 +21,7 @@ impl Plan {
 
     /// The key of a row for a set.
     pub fn row_key(&self, batch: &Batch<'_, '_>, row: usize, set: usize) -> Key
-        ensures { key_cells result ≡ row_key (settings_of self.now) set (slice_index_or (view_rows batch.now) row []) }
+        ensures { result ≡ row_key (settings_of self.now) set (slice_index_or (view_rows batch.now) row []) }
     {
         self.keys.evaluate_group_by(batch, row, set)
     }
@@ -52,7 +51,7 @@ impl Plan {
 
     /// The key for a set of a row that is masked whole.
     pub fn masked_key(&self, set: usize) -> Key
-        ensures { key_cells result ≡ masked_key (settings_of self.now).group_by set }
+        ensures { result ≡ masked_key (settings_of self.now).group_by set }
     {
         self.keys.masked_key(set)
     }

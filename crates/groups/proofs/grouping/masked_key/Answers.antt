@@ -1,7 +1,7 @@
 use Rattle.std.proofs.Common.{◌≡◌, [], ◌∷◌, length, take, replicate, None, vec_items, ap, ◌∙◌, arith, w64, SFits, rules}
 use Rattle.std.proofs.lemmas.List.{replicate_more}
 use Rattle.std.proofs.lemmas.Int.{to_z-of_z}
-use Rattle.group_by.proofs.KeyCells.{pushed}
+use Rattle.cells.proofs.Pushing.{pushed}
 use Rattle.groups.proofs.Marks.{sized_set, masked_is}
 use Rattle.groups.proofs.grouping.masked_key.Goals as goal
 

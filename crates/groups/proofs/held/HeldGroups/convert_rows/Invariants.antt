@@ -1,4 +1,4 @@
-use Rattle.std.proofs.Common.{◌≡◌, true, take}
+use Rattle.std.proofs.Common.{◌≡◌, true}
 use Rattle.cells.specs.Views.{view_rows}
 use Rattle.output.specs.Waits.{waiting_rows, stored}
 use Rattle.model.specs.Machine.{converted}
@@ -11,4 +11,4 @@ abbrev pub invariant-loop-row : goal.invariant-loop-row
 invariant-loop-row g l =
     let u = setup_of g.A.GroupsAccumulator.aggregation g.G.GroupValues.admitted l.plan in
     Narrow g.A.GroupsAccumulator.aggregation → is_partial l.plan.mode ≡ true
-    → Put (converted u (take 512 (view_rows l.batch))) l.row (waiting_rows l.waiting) (stored l.waiting)
+    → Put (converted u (view_rows l.batch)) l.row (waiting_rows l.waiting) (stored l.waiting)

@@ -8,7 +8,7 @@ pub loop-set-init : goal.loop-set-init
 loop-set-init g c =
     let u = setup_of g.A.GroupsAccumulator.aggregation g.G.GroupValues.admitted c.args.plan.now in
     let rows = view_rows c.args.batch.now in
-    c.loop-row.invariant ∙ row_starts u rows c.num_sets-set-end.result c.loop-row.row c.num_sets-set-end.ensures (omega (arith, c.loop-row-test.true, c.num_rows-row-end.ensures))
+    c.loop-row.invariant ∙ row_starts u rows c.num_sets-set-end.result c.loop-row.row c.num_sets-set-end.ensures (omega (arith, c.loop-row-test.true, c.num_rows-row-end.ensures.value))
 
 pub loop-set-preserved : goal.loop-set-preserved
 loop-set-preserved g c =
@@ -31,4 +31,4 @@ pub returns-after-loop-row : goal.returns-after-loop-row
 returns-after-loop-row g c =
     let u = setup_of g.A.GroupsAccumulator.aggregation g.G.GroupValues.admitted c.args.plan.now in
     let rows = view_rows c.args.batch.now in
-    sym (c.loop-row.invariant ∙ rows_end u rows c.loop-row.row (omega (arith, c.loop-row-test.false, c.num_rows-row-end.ensures)))
+    sym (c.loop-row.invariant ∙ rows_end u rows c.loop-row.row (omega (arith, c.loop-row-test.false, c.num_rows-row-end.ensures.value)))

@@ -12,8 +12,8 @@ use Rattle.groups.proofs.held.HeldGroups.make_totals.Goals.{then-is_grand, else-
 pub loop-set-preserved : goal.loop-set-preserved
 loop-set-preserved g c =
     let u = setup_of g.A.GroupsAccumulator.aggregation g.G.GroupValues.admitted c.args.plan.now in
-    let table : HeldGroups g.row.G.Denot g.row.A.Denot → List (List CellOf) = λ h. g.G.GroupValues.keys h.group_values in
-    let accumulator : HeldGroups g.row.G.Denot g.row.A.Denot → g.row.A.Denot = λ h. h.accumulator in
+    let table : HeldGroups g.row.G.Denot g.row.A.Denot g.row.A-State.Denot g.G.GroupValues g.A.GroupsAccumulator → List (List CellOf) = λ h. g.G.GroupValues.keys h.group_values in
+    let accumulator : HeldGroups g.row.G.Denot g.row.A.Denot g.row.A-State.Denot g.G.GroupValues g.A.GroupsAccumulator → g.row.A.Denot = λ h. h.accumulator in
     let s = c.loop-set.set in
     let within : s < num_sets u.settings = omega (arith, c.loop-set-test.true, c.num_sets-set-end.ensures) in
     elim c.if-is_grand.branch [
@@ -22,12 +22,12 @@ loop-set-preserved g c =
             (ap table w.self-is ∙ w.intern.ensures.after ∙ ap (λ (k : List CellOf). interned u.admitted (table c.loop-set.self) k) w.masked_key.ensures)
             ∙ c.loop-set.invariant.0,
         ap accumulator w.self-is ∙ c.loop-set.invariant.1,
-        ap (λ (h : HeldGroups g.row.G.Denot g.row.A.Denot). h.group_ordering) w.self-is ∙ c.loop-set.invariant.2,
+        ap (λ (h : HeldGroups g.row.G.Denot g.row.A.Denot g.row.A-State.Denot g.G.GroupValues g.A.GroupsAccumulator). h.group_ordering) w.self-is ∙ c.loop-set.invariant.2,
       )
       | else-is_grand w ↦ (
         total_more u false s _ _ within (sym w.if-is_grand.ensures) (ap table w.self-is) ∙ c.loop-set.invariant.0,
         ap accumulator w.self-is ∙ c.loop-set.invariant.1,
-        ap (λ (h : HeldGroups g.row.G.Denot g.row.A.Denot). h.group_ordering) w.self-is ∙ c.loop-set.invariant.2,
+        ap (λ (h : HeldGroups g.row.G.Denot g.row.A.Denot g.row.A-State.Denot g.G.GroupValues g.A.GroupsAccumulator). h.group_ordering) w.self-is ∙ c.loop-set.invariant.2,
       )
     ]
 

@@ -10,7 +10,7 @@ returns-in-Partial g c narrow =
     let a = g.A.GroupsAccumulator.aggregation in
     let key = get_or (g.G.GroupValues.keys c.args.self.now.group_values) c.args.group [] in
     let s = get_or (g.A.GroupsAccumulator.states c.args.self.now.accumulator) c.args.group a.neutral in
-    c.of_state.ensures
+    c.state_row.ensures
     ∙ ap (λ (cs : List CellOf). cs ++ take 8 (a.shows s)) c.key-key.ensures
     ∙ ap (λ (cs : List CellOf). key ++ cs) (take_all 8 (a.shows s) (omega (arith, g.met.A.GroupsAccumulator.lawful.shows_length s, narrow.states)))
     ∙ sym (ap (λ (m : AggregateMode). key ++ cond (is_partial m) (a.shows s) (a.results s)) c.in-Partial.is)
@@ -20,7 +20,7 @@ returns-in-Single g c narrow =
     let a = g.A.GroupsAccumulator.aggregation in
     let key = get_or (g.G.GroupValues.keys c.args.self.now.group_values) c.args.group [] in
     let s = get_or (g.A.GroupsAccumulator.states c.args.self.now.accumulator) c.args.group a.neutral in
-    c.of_results.ensures
+    c.result_row.ensures
     ∙ ap (λ (cs : List CellOf). cs ++ take 8 (a.results s)) c.key-key.ensures
     ∙ ap (λ (cs : List CellOf). key ++ cs) (take_all 8 (a.results s) (omega (arith, g.met.A.GroupsAccumulator.lawful.results_length s, narrow.results)))
     ∙ sym (ap (λ (m : AggregateMode). key ++ cond (is_partial m) (a.shows s) (a.results s)) c.in-Single.is)

@@ -12,9 +12,9 @@ loop-group-init g c narrow = record { rows = c.clear.ensures.waiting; taken = c.
 pub loop-group-preserved : goal.loop-group-preserved
 loop-group-preserved g c narrow =
     let u = setup_of g.A.GroupsAccumulator.aggregation g.G.GroupValues.admitted c.args.plan.now in
-    let held = held_of g.G.GroupValues.keys g.A.GroupsAccumulator.states c.args.self.now in
+    let held = held_of c.args.self.now in
     let i = c.loop-group.group in
-    let l : i < length held.keys = below_held c.args.emit_to (length held.keys) i c.emitted-group-end.result c.emitted-group-end.ensures c.loop-group-test.true in
+    let l : i < length held.keys = below_held c.args.emit_to (length held.keys) i c.count-group-end.result c.count-group-end.ensures c.loop-group-test.true in
     put_more (out_rows u (held_pairs u held)) i _ _ _ _ _ [] (c.loop-group.invariant narrow) (omega (arith, l, all_length u held))
     (omega (arith, l, g.met.G.GroupValues.bounded c.args.self.now.group_values))
     (row_at u held i _ l (c.row.ensures narrow)) c.push.ensures.waiting c.push.ensures.stored
@@ -22,6 +22,6 @@ loop-group-preserved g c narrow =
 pub returns : goal.returns
 returns g c narrow =
     let u = setup_of g.A.GroupsAccumulator.aggregation g.G.GroupValues.admitted c.args.plan.now in
-    let held = held_of g.G.GroupValues.keys g.A.GroupsAccumulator.states c.args.self.now in
-    let same : c.loop-group.group ≡ c.emitted-group-end.result = omega (arith, c.loop-group-test.false, c.loop-group.auto.group-end) in
-    emission-is u held c.args.emit_to c.loop-group.group (waiting_rows c.loop-group.waiting) (c.loop-group.invariant narrow).rows (same ∙ c.emitted-group-end.ensures)
+    let held = held_of c.args.self.now in
+    let same : c.loop-group.group ≡ c.count-group-end.result = omega (arith, c.loop-group-test.false, c.loop-group.auto.group-end) in
+    emission-is u held c.args.emit_to c.loop-group.group (waiting_rows c.loop-group.waiting) (c.loop-group.invariant narrow).rows (same ∙ c.count-group-end.ensures)

@@ -9,4 +9,4 @@ abbrev pub invariant-loop-group : goal.invariant-loop-group
 invariant-loop-group g l =
     let u = setup_of g.A.GroupsAccumulator.aggregation g.G.GroupValues.admitted l.plan in
     Narrow g.A.GroupsAccumulator.aggregation
-    → Put (out_rows u (held_pairs u (held_of g.G.GroupValues.keys g.A.GroupsAccumulator.states l.self))) l.group (waiting_rows l.waiting) (stored l.waiting)
+    → Put (out_rows u (held_pairs u (held_of l.self))) l.group (waiting_rows l.waiting) (stored l.waiting)
