@@ -46,11 +46,11 @@ module _ {S : Type 0} (keys : List (List CellOf)) (key : List CellOf) (old new :
   indexed_push = (
     λ p h. elim (cases_lt p (length keys)) [
       | inl v ↦
-          let at = get_or_append_left keys (key ∷ []) [] p v in
-          ap (get key_eq new) at ∙ up.2 (get_or keys p []) (other_key key (get_or keys p []) (λ e. absent p v (sym e))) ∙ ix.0 p v
+          let other = other_key key (get_or keys p []) (λ e. absent p v (sym e)) in
+          rw (get_or_append_left keys (key ∷ []) [] p v, up.2 (get_or keys p []) other) (ix.0 p v)
       | inr v ↦
           let here : length keys ≡ p = omega (arith, len) in
-          ap (get key_eq new) (get_or_push keys key [] p here) ∙ up.1 ∙ ap Some here
+          rw (get_or_push keys key [] p here, up.1) (ap Some here)
     ],
     λ q p e. elim (cases_Bool (key_eq key q)) [
       | inl same ↦

@@ -26,7 +26,7 @@ key_at : (slots : List ℕ) (p : ℕ) → p < length slots → slice_index_or (m
 key_at slots p h = get_or-map slot_key slots p 0 [] h
 
 pub below_drop : (slots : List ℕ) (n : ℕ) → Below slots → Below (drop n slots)
-below_drop slots n below p h = subst (λ (s : ℕ). s < 65) (sym (get_or-drop n slots p 0)) (below (n + p) (omega (arith, length-drop n slots)))
+below_drop slots n below p h = rw (get_or-drop n slots p 0) (below (n + p) (omega (arith, length-drop n slots)))
 
 -- ---- what the index says of the keys
 
@@ -67,7 +67,7 @@ module _ (slots : List ℕ) (places : List (Option ℕ)) (ix : SlotIndex slots p
   pub slots_admitted : Admitted small_key keys
   slots_admitted p h =
       let l : p < length slots = omega (arith, even) in
-      ap small_key (key_at slots p l) ∙ slot_small (slice_index slots p) (ix.0 p l)
+      rw (key_at slots p l) (slot_small (slice_index slots p) (ix.0 p l))
 
   pub slots_found : (s p : ℕ) → get_or places s None ≡ Some p → (p < length keys) × (slice_index_or keys p [] ≡ slot_key s)
   slots_found s p h = let at = ix.3 s p h in (omega (arith, at.0, even), key_at slots p at.0 ∙ ap slot_key at.1)
@@ -108,23 +108,21 @@ module _ (slots : List ℕ) (places : List (Option ℕ)) (s : ℕ) (ix : SlotInd
   pub index_push : SlotIndex (slots ++ s ∷ []) (set places s (Some n))
   index_push = (
     λ p h. elim (cases_lt p n) [
-      | inl l ↦ subst (λ (t : ℕ). t < 65) (sym (get_or_append_left slots (s ∷ []) 0 p l)) (ix.0 p l)
-      | inr g ↦ subst (λ (t : ℕ). t < 65) (sym (get_or_push slots s 0 p (omega (arith, len)))) below
+      | inl l ↦ rw (get_or_append_left slots (s ∷ []) 0 p l) (ix.0 p l)
+      | inr g ↦ rw (get_or_push slots s 0 p (omega (arith, len))) below
     ],
     length-set places s (Some n) ∙ ix.1,
     λ p h. elim (cases_lt p n) [
       | inl l ↦
           let other : get_or slots p 0 ≢ s = λ e. let link : Some p ≡ None = sym (ix.2 p l) ∙ ap (λ (t : ℕ). get_or places t None) e ∙ free in cc in
-          ap (λ (t : ℕ). get_or (set places s (Some n)) t None) (get_or_append_left slots (s ∷ []) 0 p l)
-          ∙ get_or-set_other places s (get_or slots p 0) (Some n) None other
-          ∙ ix.2 p l
+          rw (get_or_append_left slots (s ∷ []) 0 p l, get_or-set_other places s (get_or slots p 0) (Some n) None other) (ix.2 p l)
       | inr g ↦
           let here : n ≡ p = omega (arith, len) in
-          ap (λ (t : ℕ). get_or (set places s (Some n)) t None) (get_or_push slots s 0 p here) ∙ new ∙ ap Some here
+          rw (get_or_push slots s 0 p here, new) (ap Some here)
     ],
     λ t p h. elim (cases_eq t s) [
       | inl e ↦
-          let is : Some p ≡ Some n = sym h ∙ ap (λ (k : ℕ). get_or (set places s (Some n)) k None) e ∙ new in
+          let is : Some n ≡ Some p = sym new ∙ (rw e at h) in
           let here : n ≡ p = cc in
           (omega (arith, len), get_or_push slots s 0 p here ∙ sym e)
       | inr ne ↦
@@ -133,6 +131,7 @@ module _ (slots : List ℕ) (places : List (Option ℕ)) (s : ℕ) (ix : SlotInd
     ],
   )
 
+  -- all slots are distinct and below 65, with the new one too
   pub slots_room : n < 65
   slots_room = omega (arith, len, slots_bounded (slots ++ s ∷ []) (set places s (Some n)) index_push)
 
@@ -156,6 +155,6 @@ module _ (slots : List ℕ) (places : List (Option ℕ)) (i : ℕ) (l : i < leng
 
   pub index_more : SlotIndex (take (i + 1) slots) (set places s (Some i))
   index_more =
+      let here = ap (λ (n : ℕ). set places s (Some n)) so_far in
       subst (λ (xs : List ℕ). SlotIndex xs (set places s (Some i))) (sym (take_more slots i 0 l))
-      (subst (λ (n : ℕ). SlotIndex (take i slots ++ s ∷ []) (set places s (Some n))) so_far
-      (index_push (take i slots) places s ix (below i l) (no_place (get_or places s None) refl)))
+      (subst (SlotIndex (take i slots ++ s ∷ [])) here (index_push (take i slots) places s ix (below i l) (no_place (get_or places s None) refl)))

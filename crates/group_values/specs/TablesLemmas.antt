@@ -21,16 +21,13 @@ distinct_tail k keys d i j l h e = d (suc i) (suc j) (omega arith) (omega arith)
 
 place_found : (keys : List (List CellOf)) (key : List CellOf) (p : ℕ) → Distinct keys → p < length keys → slice_index_or keys p [] ≡ key → place_of keys key ≡ p
 place_found [] key p d h e = absurd (omega arith)
-place_found (k ∷ keys) key zero d h e = ap (λ (b : Bool). cond b 0 (suc (place_of keys key))) ((key_decides k key).1 e)
+place_found (k ∷ keys) key zero d h e = rw ((key_decides k key).1 e)
 place_found (k ∷ keys) key (suc p) d h e =
-    ap (λ (b : Bool). cond b 0 (suc (place_of keys key))) (not_same k key (λ i. d 0 (suc p) (omega arith) h (i ∙ sym e)))
-    ∙ ap suc (place_found keys key p (distinct_tail k keys d) (omega arith) e)
+    rw (not_same k key (λ i. d 0 (suc p) (omega arith) h (i ∙ sym e))) (ap suc (place_found keys key p (distinct_tail k keys d) (omega arith) e))
 
 place_absent : (keys : List (List CellOf)) (key : List CellOf) → Absent keys key → place_of keys key ≡ length keys
 place_absent [] key a = refl
-place_absent (k ∷ keys) key a =
-    ap (λ (b : Bool). cond b 0 (suc (place_of keys key))) (not_same k key (a 0 (omega arith)))
-    ∙ ap suc (place_absent keys key (λ q h e. a (suc q) (omega arith) e))
+place_absent (k ∷ keys) key a = rw (not_same k key (a 0 (omega arith))) (ap suc (place_absent keys key (λ q h e. a (suc q) (omega arith) e)))
 
 -- ---- what interning answers and leaves
 
@@ -42,22 +39,16 @@ module _ (admitted : List CellOf → Bool) (keys : List (List CellOf)) (key : Li
   pub interns_found : (p : ℕ) → Distinct keys → p < length keys → slice_index_or keys p [] ≡ key → Interns admitted keys key (Some p) keys
   interns_found p d h e =
       let at = place_found keys key p d h e in
-      let held : holds keys key ≡ true = lt-ltb (place_of keys key) (length keys) (omega arith) in (
-        ap (λ (b : Bool). cond b (Some (place_of keys key)) (cond (enters admitted keys key) (Some (length keys)) None)) held ∙ ap Some at,
-        ap (λ (b : Bool). cond b keys (cond (enters admitted keys key) (keys ++ key ∷ []) keys)) held,
-      )
+      let held : holds keys key ≡ true = lt-ltb (place_of keys key) (length keys) (omega arith) in
+      (rw held (ap Some at), rw held)
 
   module _ (absent : Absent keys key) where
     -- a key that is not held goes by whether it enters
     by_entering : (b : Bool) → enters admitted keys key ≡ b → Interns admitted keys key (cond b (Some (length keys)) None) (cond b (keys ++ key ∷ []) keys)
     by_entering b e =
         let at = place_absent keys key absent in
-        let free : holds keys key ≡ false = le-ltb (place_of keys key) (length keys) (omega arith) in (
-          ap (λ (t : Bool). cond t (Some (place_of keys key)) (cond (enters admitted keys key) (Some (length keys)) None)) free
-              ∙ ap (λ (t : Bool). cond t (Some (length keys)) None) e,
-          ap (λ (t : Bool). cond t keys (cond (enters admitted keys key) (keys ++ key ∷ []) keys)) free
-              ∙ ap (λ (t : Bool). cond t (keys ++ key ∷ []) keys) e,
-        )
+        let free : holds keys key ≡ false = le-ltb (place_of keys key) (length keys) (omega arith) in
+        (rw (free, e), rw (free, e))
 
     pub interns_new : admitted key ≡ true → length keys < 512 → Interns admitted keys key (Some (length keys)) (keys ++ key ∷ [])
     interns_new a h = by_entering true (and_from (admitted key) (nat_lt (length keys) 512) a (lt-ltb (length keys) 512 h))
