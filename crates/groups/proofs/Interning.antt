@@ -39,7 +39,7 @@ module _ (admitted : List CellOf → Bool) (before ks : List (List CellOf)) wher
               ∙ sym (interned_all-push admitted before (take i ks) key)
               ∙ ap (interned_all admitted before) step;
           keeps =
-              ap (map key_cells) kept-is ∙ map_push kept key
+              kept-is
               ∙ ap (λ (xs : List (List CellOf)). xs ++ key ∷ []) so_far.keeps ∙ step;
           places_are =
               places_is

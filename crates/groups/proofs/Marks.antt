@@ -106,7 +106,7 @@ module _ (g : PhysicalGroupBy) (groups : List (Vec Bool Global)) (s : ℕ) (are 
       omega (arith, length-append (replicate n None) (Some id ∷ []), length-replicate n none, all, sized.columns) in
       let read : id ≡ get_or (ids sets) s (pos 0) =
       at ∙ ap (λ (xs : List (Vec Bool Global)). id_at (sets_of xs) s) are ∙ sym (get_or-map-range_with_len (id_at sets) 0 (length sets) s s (pos 0) l (omega arith)) in
-      pushed (replicate n None) (Some id ∷ []) key key' so_far h
+      pushed 7 (replicate n None) (Some id ∷ []) key key' so_far h
       ∙ take_all 7 (replicate n None ++ Some id ∷ []) short
       ∙ ap (λ (k : ℕ). replicate k None ++ Some id ∷ []) all
       ∙ ap (λ (z : ℤ). replicate (length (vec_items g.columns)) None ++ Some z ∷ []) read

@@ -10,7 +10,7 @@ set_id-requires c = sized_set c.args.group_by.now c.deref.result.now c.args.set 
 
 pub loop-preserved : goal.loop-preserved
 loop-preserved c =
-    pushed (replicate c.loop.counter None) (None ∷ []) _ _ c.loop.invariant c.push.ensures
+    pushed 7 (replicate c.loop.counter None) (None ∷ []) _ _ c.loop.invariant c.push.ensures
     ∙ ap (take 7) (replicate_more c.loop.counter None)
 
 pub returns : goal.returns
