@@ -4,12 +4,14 @@ use Rattle.std.proofs.lemmas.Bool.{eqb-true, and_parts}
 use Rattle.cells.specs.Rows.{CellOf}
 use Rattle.group_by.specs.Sets.{IdsDiffer}
 use Rattle.accumulators.specs.Aggregations.{Aggregation, Lawful}
+use Rattle.accumulators.specs.declared.groups_accumulator.GroupsAccumulator as GroupsAccumulator
+use Rattle.group_values.specs.declared.group_values.GroupValues as GroupValues
+use Rattle.memory.specs.declared.reservation.MemoryReservation as MemoryReservation
 use Rattle.order.specs.Orders.{Order, start as unordered}
 use Rattle.order.specs.Skip.{Probe}
 use Rattle.model.specs.Setups.{Settings, Setup, first_probe}
 use Rattle.model.specs.Questions.{settings_fault}
 use Rattle.model.specs.Machine.{groups, Model, grouping, start}
-use Rattle.model.specs.Runs.{Reservation}
 use Rattle.model.specs.Law.{Sensible}
 use Rattle.stream.specs.Making.{are_new}
 
@@ -30,22 +32,25 @@ new_model {S} u keys states o p no_keys no_states is probe =
     made ks ss x y = record { held = groups ks ss x; probe = y; phase = grouping; ended = false; closing = false; rows = 0 }
 
 -- what is new holds nothing, and was refused nothing
-module _ {G A R S : Type 0} (keys : G → List (List CellOf)) (states : A → List S) (w : Reservation R) (table : G) (accumulator : A) (reservation : R)
-    (new : are_new keys states w table accumulator reservation ≡ true) where
-  pub no_keys : keys table ≡ []
-  no_keys = no_items (keys table) (and_parts (eqb (length (keys table)) 0) _ new).0
+module _ {G A S R : Type 0} (g : GroupValues.Ghosts G) (a : GroupsAccumulator.Ghosts A S) (r : MemoryReservation.Ghosts R) (table : G) (accumulator : A) (reservation : R)
+    (new : are_new g a r table accumulator reservation ≡ true) where
+  pub no_keys : g.keys table ≡ []
+  no_keys = no_items (g.keys table) (and_parts (eqb (length (g.keys table)) 0) _ new).0
 
-  others : (eqb (length (states accumulator)) 0 && (eqb (w.bytes reservation) 0 && w.granted reservation)) ≡ true
-  others = (and_parts (eqb (length (keys table)) 0) _ new).1
+  others : (eqb (length (a.states accumulator)) 0 && (eqb (r.bytes reservation) 0 && r.granted reservation)) ≡ true
+  others = (and_parts (eqb (length (g.keys table)) 0) _ new).1
 
-  pub no_states : states accumulator ≡ []
-  no_states = no_items (states accumulator) (and_parts (eqb (length (states accumulator)) 0) _ others).0
+  pub no_states : a.states accumulator ≡ []
+  no_states = no_items (a.states accumulator) (and_parts (eqb (length (a.states accumulator)) 0) _ others).0
 
-  pub no_bytes : w.bytes reservation ≡ 0
-  no_bytes = eqb-true (w.bytes reservation) 0 (and_parts (eqb (w.bytes reservation) 0) (w.granted reservation) (and_parts (eqb (length (states accumulator)) 0) _ others).1).0
+  unused : (eqb (r.bytes reservation) 0 && r.granted reservation) ≡ true
+  unused = (and_parts (eqb (length (a.states accumulator)) 0) _ others).1
 
-  pub unrefused : w.granted reservation ≡ true
-  unrefused = (and_parts (eqb (w.bytes reservation) 0) (w.granted reservation) (and_parts (eqb (length (states accumulator)) 0) _ others).1).1
+  pub no_bytes : r.bytes reservation ≡ 0
+  no_bytes = eqb-true (r.bytes reservation) 0 (and_parts (eqb (r.bytes reservation) 0) (r.granted reservation) unused).0
+
+  pub unrefused : r.granted reservation ≡ true
+  unrefused = (and_parts (eqb (r.bytes reservation) 0) (r.granted reservation) unused).1
 
 -- settings that passed their questions make a sensible setup of a plan that stands for them
 pub sensible-plan : {S : Type 0} (a : Aggregation S) (admitted : List CellOf → Bool) (st given : Settings) → st ≡ given → Lawful a

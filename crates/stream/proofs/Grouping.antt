@@ -11,27 +11,25 @@ use Rattle.stream.specs.declared.state.InputEvent.TheVariants.{Batch, End}
 use Rattle.stream.specs.Streams.{handled, Comes}
 use Rattle.stream.proofs.Settling.{comes_as}
 
-module _ {S R : Type 0} (u : Setup S) (w : Reservation R) (m : Model S) (rows : List (List CellOf)) (few : length rows ≤ 512) (k : ℕ) (all : k ≡ length rows) where
-  pub grouped_comes : (k₂ : ℕ) → k₂ ≡ length rows → (held : Groups S) → held ≡ absorbed u m.held (take 512 rows) → (r : R) (m' : Model S) (r' : R) (a : Answer)
+module _ {S R : Type 0} (u : Setup S) (w : Reservation R) (m : Model S) (rows : List (List CellOf)) (k : ℕ) (all : k ≡ length rows) where
+  pub grouped_comes : (k₂ : ℕ) → k₂ ≡ length rows → (held : Groups S) → held ≡ absorbed u m.held rows → (r : R) (m' : Model S) (r' : R) (a : Answer)
       → Comes w (settled u (with_rows (with_held m held) (m.rows + k)) k₂) r m' r' a [] → Comes w (grouped u m rows) r m' r' a []
   grouped_comes k₂ all₂ held is r m' r' a =
       comes_as u w (grouped u m rows) (settled u (with_rows (with_held m held) (m.rows + k)) k₂)
       (λ x y.
       ap (λ (n : ℕ). settled u (with_rows (with_held m (absorbed u m.held rows)) (m.rows + n)) (length rows) x y) (sym all)
       ∙ ap (λ (n : ℕ). settled u (with_rows (with_held m (absorbed u m.held rows)) (m.rows + k)) n x y) (sym all₂)
-      ∙ ap (λ (g : Groups S). settled u (with_rows (with_held m g) (m.rows + k)) k₂ x y)
-      (ap (absorbed u m.held) (sym (take_all 512 rows few)) ∙ sym is))
+      ∙ ap (λ (g : Groups S). settled u (with_rows (with_held m g) (m.rows + k)) k₂ x y) (sym is))
       r m' r' a []
 
-  pub bypassed-comes : (out : List (List CellOf)) → out ≡ converted u (take 512 rows) → (r : R)
+  pub bypassed-comes : (out : List (List CellOf)) → out ≡ converted u rows → (r : R)
       → Comes w (λ _ _. bypassed u m rows) r (with_phase (with_rows m (m.rows + k)) (waiting out true)) r accepted []
   bypassed-comes out is r = (
     true,
     true,
     [],
     ap (λ (n : ℕ). outcome (with_phase (with_rows m (m.rows + n)) (waiting (converted u rows) true)) accepted [] []) (sym all)
-        ∙ ap (λ (xs : List (List CellOf)). outcome (with_phase (with_rows m (m.rows + k)) (waiting xs true)) accepted [] [])
-        (ap (converted u) (sym (take_all 512 rows few)) ∙ sym is),
+        ∙ ap (λ (xs : List (List CellOf)). outcome (with_phase (with_rows m (m.rows + k)) (waiting xs true)) accepted [] []) (sym is),
     refl,
   )
 

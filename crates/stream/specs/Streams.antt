@@ -4,7 +4,9 @@ use Rattle.std.specs.Option.{option_map}
 use Rattle.cells.specs.declared.batch.Batch as view
 use Rattle.cells.specs.Rows.{CellOf}
 use Rattle.cells.specs.Views.{view_rows}
-use Rattle.accumulators.specs.Aggregations.{Aggregation}
+use Rattle.accumulators.specs.declared.groups_accumulator.GroupsAccumulator as GroupsAccumulator
+use Rattle.group_values.specs.declared.group_values.GroupValues as GroupValues
+use Rattle.memory.specs.declared.reservation.MemoryReservation as MemoryReservation
 use Rattle.order.specs.Skip.{probe}
 use Rattle.output.specs.Waits.{waiting_rows}
 use Rattle.groups.specs.Plans.{setup_of}
@@ -25,26 +27,33 @@ phase_of (ProducingOutput whole) rows = waiting rows whole
 phase_of SkippingAggregation rows = bypassing
 phase_of Done rows = stopped
 
-abbrev pub model_of : {G A R S : Type 0} → (G → List (List CellOf)) → (A → List S) → GroupedHashAggregateStream G A R → Model S
-model_of keys states s = record {
-  held = held_of keys states s.held;
-  probe = option_map probe s.skip_aggregation_probe;
-  phase = phase_of s.exec_state (waiting_rows s.waiting);
-  ended = s.input_done;
-  closing = s.closing;
-  rows = s.rows;
-}
-
-abbrev pub setup_in : {G A R S : Type 0} → Aggregation S → (List CellOf → Bool) → GroupedHashAggregateStream G A R → Setup S
-setup_in a admitted s = setup_of a admitted s.plan
-
 abbrev pub meaning : {R : Type 0} → (R → ℕ) → (R → Bool) → (R → ℕ → Bool → R → Type 0) → Reservation R
 meaning bytes granted asks = record { bytes = bytes; granted = granted; asks = asks }
 
--- few enough rows to be grouped and counted
-pub record Countable (rows : ℕ) (b : view.Batch) : Type 0 where
-  pub few : length (view_rows b) ≤ 512
-  pub total : rows + length (view_rows b) ≤ 2 ^ 40
+-- a stream, by what its table, its accumulator and its reservation mean
+abbrev pub StreamOf : {G A S R : Type 0} → GroupValues.Ghosts G → GroupsAccumulator.Ghosts A S → MemoryReservation.Ghosts R → Type 0
+StreamOf {G} {A} {S} {R} table accumulator memory = GroupedHashAggregateStream G A R S table accumulator memory
+
+module _ {G A S R : Type 0} {table : GroupValues.Ghosts G} {accumulator : GroupsAccumulator.Ghosts A S} {memory : MemoryReservation.Ghosts R} where
+  abbrev pub model_of : StreamOf table accumulator memory → Model S
+  model_of s = record {
+    held = held_of s.held;
+    probe = option_map probe s.skip_aggregation_probe;
+    phase = phase_of s.exec_state (waiting_rows s.waiting);
+    ended = s.input_done;
+    closing = s.closing;
+    rows = s.rows;
+  }
+
+  abbrev pub setup_in : StreamOf table accumulator memory → Setup S
+  setup_in s = setup_of accumulator.aggregation table.admitted s.plan
+
+  abbrev pub memory_of : StreamOf table accumulator memory → Reservation R
+  memory_of s = meaning memory.bytes memory.granted memory.asks
+
+-- few enough rows to be counted
+abbrev pub Countable : ℕ → view.Batch → Type 0
+Countable rows b = rows + length (view_rows b) ≤ 2 ^ 40
 
 abbrev pub CountableIn : ℕ → InputEvent → Type 0
 CountableIn rows (Batch b) = Countable rows b
@@ -63,3 +72,14 @@ Comes w f r m r' a out = (g : Bool) × (h : Bool) × (qs : List (ℕ × Bool)) �
 -- the same of a step that answers nothing
 abbrev pub Ends : {S R : Type 0} → Reservation R → (Bool → Model S × List (ℕ × Bool)) → R → Model S → R → Type 0
 Ends w f r m r' = (g : Bool) × ((f g).0 ≡ m) × Asked w r (f g).1 r'
+
+module _ {G A S R : Type 0} {table : GroupValues.Ghosts G} {accumulator : GroupsAccumulator.Ghosts A S} {memory : MemoryReservation.Ghosts R} where
+  -- the step f leads from one stream to another, with this answer, no rows handed out, and the plan as it was
+  pub record Does (f : Setup S → Model S → Bool → Bool → Outcome S) (old new : StreamOf table accumulator memory) (a : Answer) : Type 0 where
+    pub comes : Comes (memory_of old) (f (setup_in old) (model_of old)) old.reservation (model_of new) new.reservation a []
+    pub plan : new.plan ≡ old.plan
+
+  -- the same of a step that answers nothing
+  pub record Goes (f : Setup S → Model S → Bool → Model S × List (ℕ × Bool)) (old new : StreamOf table accumulator memory) : Type 0 where
+    pub ends : Ends (memory_of old) (f (setup_in old) (model_of old)) old.reservation (model_of new) new.reservation
+    pub plan : new.plan ≡ old.plan

@@ -7,9 +7,8 @@ ghost use Rattle.std.specs.Prelude.{◌≡◌};
 ghost use Rattle.cells.specs.Views.{view_rows};
 ghost use Rattle.model.specs.Setups.{out_width};
 ghost use Rattle.model.specs.Steps.{reading_fault, total_fault, grouping_fault, emptied};
-ghost use Rattle.groups.specs.Held.{Narrow};
 ghost use Rattle.stream.specs.Refusals.{offer_fault_of, UnlessNoMemory, UnlessHanded};
-ghost use Rattle.stream.specs.Streams.{model_of, setup_in, meaning, Ends};
+ghost use Rattle.stream.specs.Streams.{model_of, setup_in, Goes};
 ghost use Rattle.stream.specs.Calls.{Offers, Takes, Finishes};
 
 use crate::faults::{OfferFault, TakeFault};
@@ -29,7 +28,7 @@ impl<G: GroupValues, A: GroupsAccumulator, R: MemoryReservation> GroupedHashAggr
 > {
     /// Whether the stream still reads, and nothing waits.
     fn ask_reading(&self) -> Result<(), OfferFault>
-        ensures { offer_fault_of result ≡ reading_fault (setup_in A.aggregation G.admitted self.now) (model_of G.keys A.states self.now).phase self.now.input_done }
+        ensures { offer_fault_of result ≡ reading_fault (setup_in self.now) (model_of self.now).phase self.now.input_done }
     {
         if self.input_done {
             return Err(OfferFault::Ended);
@@ -44,7 +43,7 @@ impl<G: GroupValues, A: GroupsAccumulator, R: MemoryReservation> GroupedHashAggr
 
     /// Whether every key is admitted, and there is room for as many groups as the batch may open.
     fn ask_groups(&self, batch: &Batch<'_, '_>) -> Result<(), OfferFault>
-        ensures { offer_fault_of result ≡ grouping_fault (setup_in A.aggregation G.admitted self.now) (model_of G.keys A.states self.now).phase (model_of G.keys A.states self.now) (view_rows batch.now) }
+        ensures { offer_fault_of result ≡ grouping_fault (setup_in self.now) (model_of self.now).phase (model_of self.now) (view_rows batch.now) }
     {
         let ExecutionState::ReadingInput = self.exec_state else {
             return Ok(());
@@ -61,7 +60,7 @@ impl<G: GroupValues, A: GroupsAccumulator, R: MemoryReservation> GroupedHashAggr
 
     /// Whether the rows can be counted.
     fn ask_rows(&self, batch: &Batch<'_, '_>) -> Result<(), OfferFault>
-        ensures { offer_fault_of result ≡ total_fault (setup_in A.aggregation G.admitted self.now) (model_of G.keys A.states self.now) (view_rows batch.now) }
+        ensures { offer_fault_of result ≡ total_fault (setup_in self.now) (model_of self.now) (view_rows batch.now) }
     {
         if self.rows.saturating_add(batch.num_rows() as u64) > MAX_ACCEPTED_ROWS {
             return Err(OfferFault::TooManyRows);
@@ -71,7 +70,7 @@ impl<G: GroupValues, A: GroupsAccumulator, R: MemoryReservation> GroupedHashAggr
 
     /// Takes a batch in. Cell `c` of row `r` stands at `r * columns + c` of both slices.
     pub fn offer(&mut self, values: &[i64], flags: &[u8]) -> Result<(), OfferFault>
-        ensures offers { Narrow A.aggregation → Offers (setup_in A.aggregation G.admitted self.old) (meaning R.bytes R.granted R.asks) (model_of G.keys A.states self.old) self.old.reservation values.now flags.now result (model_of G.keys A.states self.new) self.new.reservation }
+        ensures offers { Offers self.old values.now flags.now result self.new }
         ensures unaltered { UnlessNoMemory result (self.new ≡ self.old) }
         ensures plan { self.new.plan ≡ self.old.plan }
     {
@@ -84,7 +83,7 @@ impl<G: GroupValues, A: GroupsAccumulator, R: MemoryReservation> GroupedHashAggr
 
     /// How many cells a row has as it is handed out.
     pub fn row_width(&self) -> usize
-        ensures { Narrow A.aggregation → result ≡ out_width (setup_in A.aggregation G.admitted self.now) }
+        ensures { result ≡ out_width (setup_in self.now) }
     {
         if self.plan.is_partial() {
             self.plan.key_width().saturating_add(A::state_cells())
@@ -95,8 +94,7 @@ impl<G: GroupValues, A: GroupsAccumulator, R: MemoryReservation> GroupedHashAggr
 
     /// Nothing waits any more: the end step of a closing stream that has not had it, or what comes next.
     fn output_taken(&mut self)
-        ensures ends { Narrow A.aggregation → Ends (meaning R.bytes R.granted R.asks) (emptied (setup_in A.aggregation G.admitted self.old) (model_of G.keys A.states self.old)) self.old.reservation (model_of G.keys A.states self.new) self.new.reservation }
-        ensures plan { self.new.plan ≡ self.old.plan }
+        ensures { Goes emptied self.old self.new }
     {
         if self.input_done {
             self.exec_state = ExecutionState::Done;
@@ -111,7 +109,7 @@ impl<G: GroupValues, A: GroupsAccumulator, R: MemoryReservation> GroupedHashAggr
 
     /// Hands the next rows out to the front of the slices, and answers how many; none if nothing waits.
     pub fn take(&mut self, values: &mut [i64], flags: &mut [u8]) -> Result<Option<usize>, TakeFault>
-        ensures takes { Narrow A.aggregation → Takes (setup_in A.aggregation G.admitted self.old) (meaning R.bytes R.granted R.asks) (model_of G.keys A.states self.old) self.old.reservation values.old flags.old result (model_of G.keys A.states self.new) self.new.reservation values.new flags.new }
+        ensures takes { Takes self.old values.old flags.old result self.new values.new flags.new }
         ensures unaltered { UnlessHanded result ((self.new ≡ self.old) × (values.new ≡ values.old) × (flags.new ≡ flags.old)) }
         ensures plan { self.new.plan ≡ self.old.plan }
     {
@@ -125,7 +123,7 @@ impl<G: GroupValues, A: GroupsAccumulator, R: MemoryReservation> GroupedHashAggr
             return Err(TakeFault::Short);
         }
         self.waiting.hand_out(rows, width, values, flags);
-        if self.waiting.len() == 0 {
+        if self.waiting.is_empty() {
             self.output_taken();
         }
         Ok(Some(rows))
@@ -133,7 +131,7 @@ impl<G: GroupValues, A: GroupsAccumulator, R: MemoryReservation> GroupedHashAggr
 
     /// The input is finished; what is held goes out once nothing waits.
     pub fn finish(mut self) -> ClosingStream<G, A, R>
-        ensures finishes { Narrow A.aggregation → Finishes (setup_in A.aggregation G.admitted self) (meaning R.bytes R.granted R.asks) (model_of G.keys A.states self) self.reservation (model_of G.keys A.states result.stream) result.stream.reservation }
+        ensures finishes { Finishes self result.stream }
         ensures plan { result.stream.plan ≡ self.plan }
     {
         self.closing = true;

@@ -2,9 +2,8 @@
 
 ghost use Rattle.std.specs.Prelude.{◌≡◌};
 ghost use Rattle.model.specs.Setups.{out_width};
-ghost use Rattle.groups.specs.Held.{Narrow};
 ghost use Rattle.stream.specs.Refusals.{UnlessHanded};
-ghost use Rattle.stream.specs.Streams.{model_of, setup_in, meaning};
+ghost use Rattle.stream.specs.Streams.{setup_in};
 ghost use Rattle.stream.specs.Calls.{Takes};
 
 use crate::faults::TakeFault;
@@ -16,7 +15,7 @@ use memory::MemoryReservation;
 impl<G: GroupValues, A: GroupsAccumulator, R: MemoryReservation> ClosingStream<G, A, R> {
     /// Hands the next rows out, as `GroupedHashAggregateStream::take` does.
     pub fn take(&mut self, values: &mut [i64], flags: &mut [u8]) -> Result<Option<usize>, TakeFault>
-        ensures takes { Narrow A.aggregation → Takes (setup_in A.aggregation G.admitted self.old.stream) (meaning R.bytes R.granted R.asks) (model_of G.keys A.states self.old.stream) self.old.stream.reservation values.old flags.old result (model_of G.keys A.states self.new.stream) self.new.stream.reservation values.new flags.new }
+        ensures takes { Takes self.old.stream values.old flags.old result self.new.stream values.new flags.new }
         ensures unaltered { UnlessHanded result ((self.new ≡ self.old) × (values.new ≡ values.old) × (flags.new ≡ flags.old)) }
         ensures plan { self.new.stream.plan ≡ self.old.stream.plan }
     {
@@ -25,7 +24,7 @@ impl<G: GroupValues, A: GroupsAccumulator, R: MemoryReservation> ClosingStream<G
 
     /// How many cells a row has as it is handed out.
     pub fn row_width(&self) -> usize
-        ensures { Narrow A.aggregation → result ≡ out_width (setup_in A.aggregation G.admitted self.now.stream) }
+        ensures { result ≡ out_width (setup_in self.now.stream) }
     {
         self.stream.row_width()
     }

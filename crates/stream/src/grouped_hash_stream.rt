@@ -10,10 +10,9 @@ ghost use Rattle.model.specs.Machine.{emits, count, says, with_probe};
 ghost use Rattle.model.specs.Steps.{accepted, reserved, probed, settled, ended, grouped, bypassed};
 ghost use Rattle.cells.specs.Views.{view_rows};
 ghost use Rattle.groups.specs.Plans.{is_partial};
-ghost use Rattle.groups.specs.Held.{Narrow};
 ghost use Rattle.stream.specs.declared.state.InputEvent.TheVariants.{End};
 ghost use Rattle.stream.specs.Refusals.{offer_answer, UnlessNoMemory};
-ghost use Rattle.stream.specs.Streams.{model_of, setup_in, meaning, Countable, CountableIn, handled, Comes, Ends};
+ghost use Rattle.stream.specs.Streams.{model_of, setup_in, Countable, CountableIn, handled, Does, Goes};
 
 use crate::faults::OfferFault;
 use crate::state::{ExecutionState, GroupedHashAggregateStream, InputEvent};
@@ -29,8 +28,8 @@ impl<G: GroupValues, A: GroupsAccumulator, R: MemoryReservation> GroupedHashAggr
 > {
     /// Asks for what the held groups need.
     fn update_memory_reservation(&mut self) -> bool
-        ensures asks { Narrow A.aggregation → R.asks self.old.reservation (need (setup_in A.aggregation G.admitted self.old) (count (model_of G.keys A.states self.old))) result self.new.reservation }
-        ensures model { model_of G.keys A.states self.new ≡ model_of G.keys A.states self.old }
+        ensures asks { R.asks self.old.reservation (need (setup_in self.old) (count (model_of self.old))) result self.new.reservation }
+        ensures model { model_of self.new ≡ model_of self.old }
         ensures plan { self.new.plan ≡ self.old.plan }
     {
         self.reservation.try_resize(self.held.need(&self.plan))
@@ -39,8 +38,8 @@ impl<G: GroupValues, A: GroupsAccumulator, R: MemoryReservation> GroupedHashAggr
     /// Groups go to wait, and the others move down. The memory they leave is given back; should even that be refused,
     /// the next emission gives it back.
     fn emit(&mut self, emit_to: EmitTo)
-        ensures model { Narrow A.aggregation → model_of G.keys A.states self.new ≡ emits (setup_in A.aggregation G.admitted self.old) emit_to (model_of G.keys A.states self.old) }
-        ensures asks { Narrow A.aggregation → (g : Bool) × R.asks self.old.reservation (need (setup_in A.aggregation G.admitted self.old) (count (model_of G.keys A.states self.new))) g self.new.reservation }
+        ensures model { model_of self.new ≡ emits (setup_in self.old) emit_to (model_of self.old) }
+        ensures asks { (g : Bool) × R.asks self.old.reservation (need (setup_in self.old) (count (model_of self.new))) g self.new.reservation }
         ensures plan { self.new.plan ≡ self.old.plan }
     {
         self.held.write_rows(&self.plan, emit_to, &mut self.waiting);
@@ -51,9 +50,8 @@ impl<G: GroupValues, A: GroupsAccumulator, R: MemoryReservation> GroupedHashAggr
 
     /// Asks for memory. Where it is refused, Partial mode with more than one group sends groups out early.
     fn try_update_memory_reservation(&mut self) -> Result<(), OfferFault>
-        ensures comes { Narrow A.aggregation → Comes (meaning R.bytes R.granted R.asks) (reserved (setup_in A.aggregation G.admitted self.old) (model_of G.keys A.states self.old)) self.old.reservation (model_of G.keys A.states self.new) self.new.reservation (offer_answer result) [] }
+        ensures does { Does reserved self.old self.new (offer_answer result) }
         ensures refused { UnlessNoMemory result ⊥ }
-        ensures plan { self.new.plan ≡ self.old.plan }
     {
         if self.update_memory_reservation() {
             return Ok(());
@@ -70,8 +68,7 @@ impl<G: GroupValues, A: GroupsAccumulator, R: MemoryReservation> GroupedHashAggr
 
     /// The end step: all groups are finished, and go out.
     pub(crate) fn set_input_done_and_produce_output(&mut self)
-        ensures ends { Narrow A.aggregation → Ends (meaning R.bytes R.granted R.asks) (ended (setup_in A.aggregation G.admitted self.old) (model_of G.keys A.states self.old)) self.old.reservation (model_of G.keys A.states self.new) self.new.reservation }
-        ensures plan { self.new.plan ≡ self.old.plan }
+        ensures { Goes ended self.old self.new }
     {
         self.held.end(&self.plan);
         self.input_done = true;
@@ -84,7 +81,7 @@ impl<G: GroupValues, A: GroupsAccumulator, R: MemoryReservation> GroupedHashAggr
 
     /// The probe learns of more rows.
     fn update_skip_aggregation_probe(&mut self, input_rows: usize)
-        ensures model { model_of G.keys A.states self.new ≡ with_probe (model_of G.keys A.states self.old) (option_map (λ p. told p input_rows (count (model_of G.keys A.states self.old))) (model_of G.keys A.states self.old).probe) }
+        ensures model { model_of self.new ≡ with_probe (model_of self.old) (option_map (λ p. told p input_rows (count (model_of self.old))) (model_of self.old).probe) }
         ensures plan { self.new.plan ≡ self.old.plan }
         ensures reservation { self.new.reservation ≡ self.old.reservation }
     {
@@ -96,7 +93,7 @@ impl<G: GroupValues, A: GroupsAccumulator, R: MemoryReservation> GroupedHashAggr
 
     /// Whether the probe has said skip.
     pub(crate) fn should_skip_aggregation(&self) -> bool
-        ensures { result ≡ says (model_of G.keys A.states self.now).probe }
+        ensures { result ≡ says (model_of self.now).probe }
     {
         match &self.skip_aggregation_probe {
             Some(probe) => probe.should_skip(),
@@ -106,9 +103,8 @@ impl<G: GroupValues, A: GroupsAccumulator, R: MemoryReservation> GroupedHashAggr
 
     /// The probe is told; where it says skip, all groups go out, and otherwise memory is asked for.
     fn probe_and_reserve(&mut self, input_rows: usize) -> Result<(), OfferFault>
-        ensures comes { Narrow A.aggregation → Comes (meaning R.bytes R.granted R.asks) (probed (setup_in A.aggregation G.admitted self.old) (model_of G.keys A.states self.old) input_rows) self.old.reservation (model_of G.keys A.states self.new) self.new.reservation (offer_answer result) [] }
+        ensures does { Does (λ u m. probed u m input_rows) self.old self.new (offer_answer result) }
         ensures refused { UnlessNoMemory result ⊥ }
-        ensures plan { self.new.plan ≡ self.old.plan }
     {
         self.update_skip_aggregation_probe(input_rows);
         if self.should_skip_aggregation() && self.held.len() > 0 {
@@ -120,9 +116,8 @@ impl<G: GroupValues, A: GroupsAccumulator, R: MemoryReservation> GroupedHashAggr
 
     /// What follows the grouping of a batch.
     fn settle(&mut self, input_rows: usize) -> Result<(), OfferFault>
-        ensures comes { Narrow A.aggregation → Comes (meaning R.bytes R.granted R.asks) (settled (setup_in A.aggregation G.admitted self.old) (model_of G.keys A.states self.old) input_rows) self.old.reservation (model_of G.keys A.states self.new) self.new.reservation (offer_answer result) [] }
+        ensures does { Does (λ u m. settled u m input_rows) self.old self.new (offer_answer result) }
         ensures refused { UnlessNoMemory result ⊥ }
-        ensures plan { self.new.plan ≡ self.old.plan }
     {
         if self.plan.is_limited(self.held.len()) {
             self.set_input_done_and_produce_output();
@@ -142,9 +137,8 @@ impl<G: GroupValues, A: GroupsAccumulator, R: MemoryReservation> GroupedHashAggr
     /// The batch's rows are grouped.
     fn group_aggregate_batch(&mut self, batch: &Batch<'_, '_>) -> Result<(), OfferFault>
         requires { Countable self.old.rows batch.now }
-        ensures comes { Narrow A.aggregation → Comes (meaning R.bytes R.granted R.asks) (grouped (setup_in A.aggregation G.admitted self.old) (model_of G.keys A.states self.old) (view_rows batch.now)) self.old.reservation (model_of G.keys A.states self.new) self.new.reservation (offer_answer result) [] }
+        ensures does { Does (λ u m. grouped u m (view_rows batch.now)) self.old self.new (offer_answer result) }
         ensures refused { UnlessNoMemory result ⊥ }
-        ensures plan { self.new.plan ≡ self.old.plan }
     {
         self.held.absorb(&self.plan, batch);
         self.rows += batch.num_rows() as u64;
@@ -155,8 +149,7 @@ impl<G: GroupValues, A: GroupsAccumulator, R: MemoryReservation> GroupedHashAggr
     fn transform_to_states(&mut self, batch: &Batch<'_, '_>)
         requires countable { Countable self.old.rows batch.now }
         requires partial { is_partial self.old.plan.mode ≡ true }
-        ensures comes { Narrow A.aggregation → Comes (meaning R.bytes R.granted R.asks) (λ _ _. bypassed (setup_in A.aggregation G.admitted self.old) (model_of G.keys A.states self.old) (view_rows batch.now)) self.old.reservation (model_of G.keys A.states self.new) self.new.reservation accepted [] }
-        ensures plan { self.new.plan ≡ self.old.plan }
+        ensures { Does (λ u m _ _. bypassed u m (view_rows batch.now)) self.old self.new accepted }
     {
         self.held.convert_rows(&self.plan, batch, &mut self.waiting);
         self.rows += batch.num_rows() as u64;
@@ -166,9 +159,8 @@ impl<G: GroupValues, A: GroupsAccumulator, R: MemoryReservation> GroupedHashAggr
     /// What the input brings, by what the stream is at.
     pub(crate) fn handle(&mut self, event: InputEvent<'_, '_>) -> Result<(), OfferFault>
         requires { CountableIn self.old.rows event }
-        ensures comes { Narrow A.aggregation → Comes (meaning R.bytes R.granted R.asks) (handled (setup_in A.aggregation G.admitted self.old) (model_of G.keys A.states self.old) event.entry) self.old.reservation (model_of G.keys A.states self.new) self.new.reservation (offer_answer result) [] }
+        ensures does { Does (λ u m. handled u m event.entry) self.old self.new (offer_answer result) }
         ensures unaltered { UnlessNoMemory result (self.new ≡ self.old) }
-        ensures plan { self.new.plan ≡ self.old.plan }
     {
         match (self.exec_state, event) {
             (ExecutionState::ReadingInput, InputEvent::Batch(batch)) => {

@@ -9,7 +9,6 @@ ghost use Rattle.model.specs.Questions.{settings_fault};
 ghost use Rattle.groups.specs.Settings.{given_setup};
 ghost use Rattle.groups.specs.Held.{held_of};
 ghost use Rattle.stream.specs.Making.{are_new, Founded, Returned};
-ghost use Rattle.stream.specs.Streams.{meaning};
 
 use crate::state::{ExecutionState, GroupedHashAggregateStream, StreamRefused};
 use accumulators::GroupsAccumulator;
@@ -25,7 +24,7 @@ fn are_new<G: GroupValues, A: GroupsAccumulator, R: MemoryReservation>(
     accumulator: &A,
     reservation: &R,
 ) -> bool
-    ensures { result ≡ are_new G.keys A.states (meaning R.bytes R.granted R.asks) group_values.now accumulator.now reservation.now }
+    ensures { result ≡ are_new G.GroupValues A.GroupsAccumulator R.MemoryReservation group_values.now accumulator.now reservation.now }
 {
     group_values.is_empty()
         && accumulator.num_groups() == 0
@@ -47,7 +46,7 @@ impl<G: GroupValues, A: GroupsAccumulator, R: MemoryReservation> GroupedHashAggr
         accumulator: A,
         reservation: R,
     ) -> Result<GroupedHashAggregateStream<G, A, R>, StreamRefused<G, A, R>>
-        ensures { Founded A.aggregation G.admitted G.keys A.states (meaning R.bytes R.granted R.asks) settings group_values accumulator reservation result }
+        ensures { Founded settings group_values accumulator reservation result }
     {
         let parts_are_new = are_new(&group_values, &accumulator, &reservation);
         if let Some(fault) = first_fault::<G, A>(&settings, &group_values, parts_are_new) {
@@ -80,9 +79,9 @@ impl<G: GroupValues, A: GroupsAccumulator, R: MemoryReservation> GroupedHashAggr
         parts_are_new: bool,
     ) -> Result<GroupedHashAggregateStream<G, A, R>, StreamRefused<G, A, R>>
         requires asked { settings_fault (given_setup A.aggregation G.admitted settings) parts_are_new ≡ None }
-        requires new { parts_are_new ≡ are_new G.keys A.states (meaning R.bytes R.granted R.asks) held.group_values held.accumulator reservation }
-        requires order { (held_of G.keys A.states held).order ≡ start (mode_of settings.order) }
-        ensures { Founded A.aggregation G.admitted G.keys A.states (meaning R.bytes R.granted R.asks) settings held.group_values held.accumulator reservation result }
+        requires new { parts_are_new ≡ are_new G.GroupValues A.GroupsAccumulator R.MemoryReservation held.group_values held.accumulator reservation }
+        requires order { (held_of held).order ≡ start (mode_of settings.order) }
+        ensures { Founded settings held.group_values held.accumulator reservation result }
     {
         let Ok(waiting) = Waiting::new(heap) else {
             return Err(Self::back(settings, held, reservation, SettingsFault::Memory));

@@ -1,11 +1,15 @@
 //! The stream.
 
 ghost use Rattle.std.specs.Prelude.{◌≡◌, true, is_some};
+ghost use Rattle.groups.specs.Held.{Narrow};
 ghost use Rattle.groups.specs.Plans.{is_partial};
 ghost use Rattle.stream.specs.Passing.{passes_on};
 
+use accumulators::GroupsAccumulator;
 use cells::Batch;
+use group_values::GroupValues;
 use groups::{HeldGroups, Plan, Settings, SettingsFault};
+use memory::MemoryReservation;
 use order::SkipAggregationProbe;
 use output::Waiting;
 
@@ -31,7 +35,7 @@ pub(crate) enum InputEvent<'v, 'f> {
 
 /// A grouped aggregation over any key table, accumulator and reservation.
 #[derive(Drop)]
-pub struct GroupedHashAggregateStream<G, A, R> {
+pub struct GroupedHashAggregateStream<G: GroupValues, A: GroupsAccumulator, R: MemoryReservation> {
     /// What does not change.
     pub(crate) plan: Plan,
     /// The groups that are held.
@@ -47,6 +51,8 @@ pub struct GroupedHashAggregateStream<G, A, R> {
     /// The rows that wait to be taken.
     pub(crate) waiting: Waiting,
     pub(crate) reservation: R,
+    // A row has room for the states and for the results.
+    ghost narrow: { Narrow A.aggregation },
     // Only Partial mode has a probe, and passes rows on.
     ghost probing: { is_some skip_aggregation_probe ≡ true → is_partial plan.mode ≡ true },
     ghost passing: { passes_on exec_state ≡ true → is_partial plan.mode ≡ true },
@@ -54,7 +60,7 @@ pub struct GroupedHashAggregateStream<G, A, R> {
 
 /// A stream whose input is finished: what it still holds is taken, and nothing is offered any more.
 #[derive(Drop)]
-pub struct ClosingStream<G, A, R> {
+pub struct ClosingStream<G: GroupValues, A: GroupsAccumulator, R: MemoryReservation> {
     pub(crate) stream: GroupedHashAggregateStream<G, A, R>,
 }
 

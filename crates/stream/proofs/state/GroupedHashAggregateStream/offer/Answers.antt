@@ -2,20 +2,19 @@ use Rattle.std.proofs.Common.{◌≡◌, ℕ, [], length, Some, None, sym, refl,
 use Rattle.std.proofs.lemmas.Result.{err_from_is_err_and}
 use Rattle.cells.specs.Faults.{batch_fault}
 use Rattle.cells.specs.Views.{view_rows, rows_in}
-use Rattle.groups.specs.Plans.{setup_of}
 use Rattle.model.specs.Steps.{offer as offering}
 use Rattle.stream.specs.declared.faults.OfferFault.{OfferFault}
 use Rattle.stream.specs.Refusals.{offer_refusal, offer_fault_of, offer_answer}
-use Rattle.stream.specs.Streams.{model_of, meaning}
+use Rattle.stream.specs.Streams.{model_of, setup_in, memory_of}
 use Rattle.stream.proofs.Offering.{unless-kept, lawful_asks, makes, fault_reading, fault_batch, fault_total, fault_groups, refused-comes, accepted-comes, few_rows, countable}
 use Rattle.stream.proofs.state.GroupedHashAggregateStream.offer.Goals as goal
 
 pub returns-in_err-ask_reading : goal.returns-in_err-ask_reading
 returns-in_err-ask_reading g c =
-    let w = meaning g.R.MemoryReservation.bytes g.R.MemoryReservation.granted g.R.MemoryReservation.asks in
     let s = c.args.self.now in
-    let u = setup_of g.A.GroupsAccumulator.aggregation g.G.GroupValues.admitted s.plan in
-    let m = model_of g.G.GroupValues.keys g.A.GroupsAccumulator.states s in
+    let w = memory_of s in
+    let u = setup_in s in
+    let m = model_of s in
     let v = c.args.values.now in
     let f = c.args.flags.now in
     let res = c.from_residual.result in
@@ -24,17 +23,17 @@ returns-in_err-ask_reading g c =
     (fault_reading u w m v f (offer_fault_of c.ask_reading.result) c.ask_reading.ensures (offer_refusal e.0) (ap offer_fault_of c.in_err-ask_reading.was ∙ ap (λ (x : OfferFault). Some (offer_refusal x)) (sym e.2)))
     s.reservation in
     record {
-      offers = λ _. makes u w (lawful_asks _ _ _ g.met.R.MemoryReservation.lawful) m s.reservation (offering v f) (offer_answer res) [] m s.reservation comes;
+      offers = makes u w (lawful_asks _ _ _ g.met.R.MemoryReservation.lawful) m s.reservation (offering v f) (offer_answer res) [] m s.reservation comes;
       unaltered = unless-kept res refl;
       plan = refl;
     }
 
 pub returns-in_err-batch : goal.returns-in_err-batch
 returns-in_err-batch g c =
-    let w = meaning g.R.MemoryReservation.bytes g.R.MemoryReservation.granted g.R.MemoryReservation.asks in
     let s = c.args.self.now in
-    let u = setup_of g.A.GroupsAccumulator.aggregation g.G.GroupValues.admitted s.plan in
-    let m = model_of g.G.GroupValues.keys g.A.GroupsAccumulator.states s in
+    let w = memory_of s in
+    let u = setup_in s in
+    let m = model_of s in
     let v = c.args.values.now in
     let f = c.args.flags.now in
     let res = c.from_residual-in_err-batch.result in
@@ -44,17 +43,17 @@ returns-in_err-batch g c =
     (ap (λ (C : ℕ). batch_fault C v f) (sym c.columns.ensures) ∙ c.in_err-batch.ensures ∙ ap (λ (x : OfferFault). Some (offer_refusal x)) (sym e.2)))
     s.reservation in
     record {
-      offers = λ _. makes u w (lawful_asks _ _ _ g.met.R.MemoryReservation.lawful) m s.reservation (offering v f) (offer_answer res) [] m s.reservation comes;
+      offers = makes u w (lawful_asks _ _ _ g.met.R.MemoryReservation.lawful) m s.reservation (offering v f) (offer_answer res) [] m s.reservation comes;
       unaltered = unless-kept res refl;
       plan = refl;
     }
 
 pub returns-in_err-ask_rows : goal.returns-in_err-ask_rows
 returns-in_err-ask_rows g c =
-    let w = meaning g.R.MemoryReservation.bytes g.R.MemoryReservation.granted g.R.MemoryReservation.asks in
     let s = c.args.self.now in
-    let u = setup_of g.A.GroupsAccumulator.aggregation g.G.GroupValues.admitted s.plan in
-    let m = model_of g.G.GroupValues.keys g.A.GroupsAccumulator.states s in
+    let w = memory_of s in
+    let u = setup_in s in
+    let m = model_of s in
     let v = c.args.values.now in
     let f = c.args.flags.now in
     let seen = view_rows c.in_ok-batch.batch in
@@ -67,17 +66,17 @@ returns-in_err-ask_rows g c =
     (ap offer_fault_of c.in_err-ask_rows.was ∙ ap (λ (x : OfferFault). Some (offer_refusal x)) (sym e.2)))
     s.reservation in
     record {
-      offers = λ _. makes u w (lawful_asks _ _ _ g.met.R.MemoryReservation.lawful) m s.reservation (offering v f) (offer_answer res) [] m s.reservation comes;
+      offers = makes u w (lawful_asks _ _ _ g.met.R.MemoryReservation.lawful) m s.reservation (offering v f) (offer_answer res) [] m s.reservation comes;
       unaltered = unless-kept res refl;
       plan = refl;
     }
 
 pub returns-in_err-ask_groups : goal.returns-in_err-ask_groups
 returns-in_err-ask_groups g c =
-    let w = meaning g.R.MemoryReservation.bytes g.R.MemoryReservation.granted g.R.MemoryReservation.asks in
     let s = c.args.self.now in
-    let u = setup_of g.A.GroupsAccumulator.aggregation g.G.GroupValues.admitted s.plan in
-    let m = model_of g.G.GroupValues.keys g.A.GroupsAccumulator.states s in
+    let w = memory_of s in
+    let u = setup_in s in
+    let m = model_of s in
     let v = c.args.values.now in
     let f = c.args.flags.now in
     let seen = view_rows c.in_ok-batch.batch in
@@ -91,33 +90,22 @@ returns-in_err-ask_groups g c =
     ∙ ap offer_fault_of c.in_err-ask_groups.was ∙ ap (λ (x : OfferFault). Some (offer_refusal x)) (sym e.2))
     s.reservation in
     record {
-      offers = λ _. makes u w (lawful_asks _ _ _ g.met.R.MemoryReservation.lawful) m s.reservation (offering v f) (offer_answer res) [] m s.reservation comes;
+      offers = makes u w (lawful_asks _ _ _ g.met.R.MemoryReservation.lawful) m s.reservation (offering v f) (offer_answer res) [] m s.reservation comes;
       unaltered = unless-kept res refl;
       plan = refl;
     }
 
 pub handle-requires : goal.handle-requires
 handle-requires g c =
-    let w = meaning g.R.MemoryReservation.bytes g.R.MemoryReservation.granted g.R.MemoryReservation.asks in
     let s = c.args.self.now in
-    let u = setup_of g.A.GroupsAccumulator.aggregation g.G.GroupValues.admitted s.plan in
-    let m = model_of g.G.GroupValues.keys g.A.GroupsAccumulator.states s in
-    let v = c.args.values.now in
-    let f = c.args.flags.now in
-    let seen = view_rows c.in_ok-batch.batch in
-    let whole : batch_fault u.settings.columns v f ≡ None = ap (λ (C : ℕ). batch_fault C v f) (sym c.columns.ensures) ∙ c.in_ok-batch.ensures.0 in
-    let view : seen ≡ rows_in u.settings.columns v f = c.in_ok-batch.ensures.1 ∙ ap (λ (C : ℕ). rows_in C v f) c.columns.ensures in
-    record {
-      few = omega (arith, ap length view, few_rows u.settings.columns v f whole);
-      total = countable u m seen (sym c.ask_rows.ensures ∙ ap offer_fault_of c.in_ok-ask_rows.was);
-    }
+    countable (setup_in s) (model_of s) (view_rows c.in_ok-batch.batch) (sym c.ask_rows.ensures ∙ ap offer_fault_of c.in_ok-ask_rows.was)
 
 pub returns : goal.returns
 returns g c =
-    let w = meaning g.R.MemoryReservation.bytes g.R.MemoryReservation.granted g.R.MemoryReservation.asks in
     let s = c.args.self.now in
-    let u = setup_of g.A.GroupsAccumulator.aggregation g.G.GroupValues.admitted s.plan in
-    let m = model_of g.G.GroupValues.keys g.A.GroupsAccumulator.states s in
+    let w = memory_of s in
+    let u = setup_in s in
+    let m = model_of s in
     let v = c.args.values.now in
     let f = c.args.flags.now in
     let seen = view_rows c.in_ok-batch.batch in
@@ -128,11 +116,10 @@ returns g c =
     (ap offer_fault_of c.in_ok-ask_rows.was) (offer_fault_of c.ask_groups.result) c.ask_groups.ensures
     ∙ ap offer_fault_of c.in_ok-ask_groups.was in
     let t = c.handle.new.self in
-    let m' = model_of g.G.GroupValues.keys g.A.GroupsAccumulator.states t in
+    let m' = model_of t in
     record {
-      offers = λ narrow.
-          makes u w (lawful_asks _ _ _ g.met.R.MemoryReservation.lawful) m s.reservation (offering v f) (offer_answer res) [] m' t.reservation
-          (accepted-comes u w m v f clean seen view s.reservation m' t.reservation (offer_answer res) (c.handle.ensures.comes narrow));
+      offers = makes u w (lawful_asks _ _ _ g.met.R.MemoryReservation.lawful) m s.reservation (offering v f) (offer_answer res) [] m' t.reservation
+          (accepted-comes u w m v f clean seen view s.reservation m' t.reservation (offer_answer res) c.handle.ensures.does.comes);
       unaltered = c.handle.ensures.unaltered;
-      plan = c.handle.ensures.plan;
+      plan = c.handle.ensures.does.plan;
     }

@@ -3,7 +3,6 @@ use Rattle.groups.specs.Settings.{given_setup}
 use Rattle.groups.proofs.Passing.{no_refusal, refusal_is}
 use Rattle.model.specs.Questions.{settings_fault}
 use Rattle.stream.specs.Making.{are_new}
-use Rattle.stream.specs.Streams.{meaning}
 use Rattle.stream.proofs.state.GroupedHashAggregateStream.try_new.Goals as goal
 
 pub returns-in-Some : goal.returns-in-Some
@@ -15,12 +14,11 @@ returns-in-Some g c =
 
 pub over-requires : goal.over-requires
 over-requires g c =
-    let w = meaning g.R.MemoryReservation.bytes g.R.MemoryReservation.granted g.R.MemoryReservation.asks in
     let held = c.in-Ok.ensures in record {
       asked = no_refusal _ c.in_default.ensures;
       new = c.are_new-parts_are_new.ensures
-          ∙ ap (λ x. are_new g.G.GroupValues.keys g.A.GroupsAccumulator.states w x c.args.accumulator c.args.reservation) (sym held.0)
-          ∙ ap (λ x. are_new g.G.GroupValues.keys g.A.GroupsAccumulator.states w c.in-Ok.held.group_values x c.args.reservation) (sym held.1);
+          ∙ ap (λ x. are_new g.G.GroupValues g.A.GroupsAccumulator g.R.MemoryReservation x c.args.accumulator c.args.reservation) (sym held.0)
+          ∙ ap (λ x. are_new g.G.GroupValues g.A.GroupsAccumulator g.R.MemoryReservation c.in-Ok.held.group_values x c.args.reservation) (sym held.1);
       order = held.2;
     }
 
