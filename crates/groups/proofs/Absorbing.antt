@@ -1,12 +1,10 @@
 -- What the steps of a batch leave is what the batch is defined to leave.
-use Rattle.std.proofs.Common.{◌≡◌, ℕ, suc, ◌+◌, ◌-◌, ◌<◌, ◌≤◌, min, Bool, cond, List, [], ◌∷◌, map, length, get_or, take, sym, refl, ap, ◌∙◌, arith}
-use Rattle.std.proofs.lemmas.List.{get_or-take, length-map, length-take}
+use Rattle.std.proofs.Common.{◌≡◌, ℕ, suc, ◌+◌, ◌-◌, ◌<◌, ◌≤◌, Bool, cond, List, map, length, sym, ap, ◌∙◌, arith}
 use Rattle.std.proofs.lemmas.Bool.{lt-ltb, le-ltb}
 use Rattle.cells.specs.Rows.{CellOf}
 use Rattle.aggregates.specs.declared.aggregate_expr.AggregateExpr.{AggregateExpr}
 use Rattle.accumulators.specs.Aggregations.{Aggregation}
-use Rattle.accumulators.specs.Groups.{grown, fed, fed_from, updated}
-use Rattle.group_values.specs.Tables.{interned}
+use Rattle.accumulators.specs.Groups.{updated}
 use Rattle.order.specs.Orders.{Order, opened}
 use Rattle.model.specs.Setups.{Setup, row_key}
 use Rattle.model.specs.Machine.{Groups, groups, interned_all, placed_all, reordered, absorbed_set, absorbed_from}

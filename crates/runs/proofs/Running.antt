@@ -12,7 +12,7 @@ use Rattle.model.proofs.Account.{LawfulAsks}
 use Rattle.model.proofs.EveryRun.{law}
 use Rattle.stream.specs.Calls.{Makes}
 use Rattle.runs.specs.declared.script.Answer.{Answer}
-use Rattle.runs.specs.declared.script.Answer.TheVariants.{Closed}
+use Rattle.runs.specs.declared.script.Answer.TheVariants.{Finished}
 use Rattle.runs.specs.declared.script.Buffers.{Buffers}
 use Rattle.runs.specs.declared.script.Call.{Call}
 use Rattle.runs.specs.declared.script.Reply.{Reply}
@@ -38,8 +38,8 @@ written-join W (x ∷ es) fs (s ∷ ss) ts e = ap (λ (zs : List Slices). writte
 pub new_leads : {S R : Type 0} (u : Setup S) (w : Reservation R) (m : Model S) (r r₀ : R) → m ≡ start u → r ≡ r₀ → w.bytes r₀ ≡ 0 → w.granted r₀ ≡ true → LeadsNoting u w [] m r
 new_leads {S} {R} u w m r r₀ is same empty granted = (is, ap (λ (x : R). w.bytes x) same ∙ empty, ap (λ (x : R). w.granted x) same ∙ granted)
 
-pub told-closed : (reply : Reply) (bytes : ℕ) (granted : Bool) → reply.answer ≡ Closed → reply.bytes ≡ bytes → reply.granted ≡ granted → tells reply ≡ (closed, bytes, granted)
-told-closed reply bytes granted answer b g =
+pub told_finished : (reply : Reply) (bytes : ℕ) (granted : Bool) → reply.answer ≡ Finished → reply.bytes ≡ bytes → reply.granted ≡ granted → tells reply ≡ (closed, bytes, granted)
+told_finished reply bytes granted answer b g =
     ap (λ (a : Answer). (answer_of a, reply.bytes, reply.granted)) answer ∙ ap (λ (x : ℕ). (closed, x, reply.granted)) b ∙ ap (λ (x : Bool). (closed, bytes, x)) g
 
 module _ {S R : Type 0} (u : Setup S) (w : Reservation R) (sensible : Sensible u) (lawful : LawfulAsks w) (script script' : Script)

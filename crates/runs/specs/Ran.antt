@@ -2,7 +2,9 @@
 use Rattle.std.specs.Prelude.{◌≡◌, ℕ, Bool, List, ◌++◌, map, ℤ, Some, None, Ok, Err, vec_items, Option, Result}
 use Rattle.cells.specs.Refusals.{Refusal}
 use Rattle.cells.specs.Rows.{CellOf}
-use Rattle.accumulators.specs.Aggregations.{Aggregation}
+use Rattle.accumulators.specs.declared.groups_accumulator.GroupsAccumulator as GroupsAccumulator
+use Rattle.group_values.specs.declared.group_values.GroupValues as GroupValues
+use Rattle.memory.specs.declared.reservation.MemoryReservation as MemoryReservation
 use Rattle.groups.specs.declared.settings.Settings.{Settings}
 use Rattle.groups.specs.Plans.{settings_of}
 use Rattle.groups.specs.Settings.{given_settings, given_setup, settings_refusal}
@@ -14,10 +16,9 @@ use Rattle.model.specs.Steps.{Request}
 use Rattle.model.specs.Runs.{Reservation}
 use Rattle.runs.specs.Noted.{Noted, event_of, LeadsNoting}
 use Rattle.model.specs.Law.{Law}
-use Rattle.stream.specs.declared.state.GroupedHashAggregateStream.{GroupedHashAggregateStream}
 use Rattle.stream.specs.declared.state.StreamRefused.{StreamRefused}
 use Rattle.stream.specs.Making.{are_new, Returned}
-use Rattle.stream.specs.Streams.{model_of, setup_in}
+use Rattle.stream.specs.Streams.{StreamOf, model_of, setup_in, memory_of}
 use Rattle.stream.specs.Calls.{Makes}
 use Rattle.runs.specs.declared.script.Reply.{Reply}
 use Rattle.runs.specs.declared.script.Run.{Run}
@@ -56,28 +57,41 @@ module _ {S R : Type 0} (u : Setup S) (w : Reservation R) where
     pub requests_same : requests_of script' ≡ requests_of script
     pub law : Law u w (map event_of history) m r
 
-abbrev pub stream_of : {G A R : Type 0} → Stage G A R → GroupedHashAggregateStream G A R
-stream_of (Reading s) = s
-stream_of (Closing s) = s.stream
+module _ {G A S R : Type 0} {g : GroupValues.Ghosts G} {a : GroupsAccumulator.Ghosts A S} {r : MemoryReservation.Ghosts R} where
+  -- a history leads to a stream
+  abbrev pub LeadsTo : StreamOf g a r → List Noted → Type 0
+  LeadsTo s h = LeadsNoting (setup_in s) (memory_of s) h (model_of s) s.reservation
 
--- the stream reads on exactly where finish was not called
-abbrev pub Staged : {G A R X : Type 0} → Stage G A R → Option X → Type 0
-Staged (Reading s) None = Unit {0}
-Staged (Reading s) (Some x) = ⊥
-Staged (Closing s) None = ⊥
-Staged (Closing s) (Some x) = Unit {0}
+  -- a call on a stream led to another
+  abbrev pub CalledOn : StreamOf g a r → Request → List ℤ × List ℕ → List ℤ × List ℕ → Reply → StreamOf g a r → Type 0
+  CalledOn old q before after reply new = Called (setup_in old) (memory_of old) (model_of old) old.reservation q before after reply (model_of new) new.reservation
 
--- a run of the whole script on a stream of what was passed, where every question is answered yes; else what was passed comes
--- back, with the first question that is not, or where there is no memory, and the script is as it was
-abbrev pub Runs : {G A R S : Type 0} → Aggregation S → (List CellOf → Bool) → (G → List (List CellOf)) → (A → List S) → Reservation R
-    → Settings → G → A → R → Script → Result (Run G A R) (StreamRefused G A R) → Script → Type 0
-Runs a admitted keys states w settings table accumulator reservation script (Ok run) script' =
-    let s = stream_of run.stage in
-    (settings_fault (given_setup a admitted settings) (are_new keys states w table accumulator reservation) ≡ None)
-    × (settings_of s.plan ≡ given_settings settings)
-    × Staged run.stage script.closing
-    × Ran (setup_in a admitted s) w script script' (vec_items run.replies) (model_of keys states s) s.reservation
-Runs a admitted keys states w settings table accumulator reservation script (Err r) script' =
-    ((e : Refusal) → settings_refusal r.fault ≡ Some e → settings_fault (given_setup a admitted settings) (are_new keys states w table accumulator reservation) ≡ Some e)
-    × Returned settings table accumulator reservation r
-    × (script' ≡ script)
+  -- calls on a stream led to another
+  abbrev pub WalkedOn : StreamOf g a r → List Noted → List Request → List (List ℤ × List ℕ) → List (List ℤ × List ℕ)
+      → List (steps.Answer × ℕ × Bool) → List (steps.Answer × ℕ × Bool) → StreamOf g a r → Type 0
+  WalkedOn old h requests before after told₀ told₁ new = Walked (setup_in old) (memory_of old) h requests before after told₀ told₁ (model_of new) new.reservation
+
+  abbrev pub stream_of : Stage G A R S g a r → StreamOf g a r
+  stream_of (Reading s) = s
+  stream_of (Closing s) = s.stream
+
+  -- the stream reads on exactly where finish was not called
+  abbrev pub Staged : {X : Type 0} → Stage G A R S g a r → Option X → Type 0
+  Staged (Reading s) None = Unit {0}
+  Staged (Reading s) (Some x) = ⊥
+  Staged (Closing s) None = ⊥
+  Staged (Closing s) (Some x) = Unit {0}
+
+  -- a run of the whole script on a stream of what was passed, where every question is answered yes; else what was passed
+  -- comes back, with the first question that is not, or where there is no memory, and the script is as it was
+  abbrev pub Runs : Settings → G → A → R → Script → Result (Run G A R S g a r) (StreamRefused G A R) → Script → Type 0
+  Runs settings table accumulator reservation script (Ok run) script' =
+      let s = stream_of run.stage in
+      (settings_fault (given_setup a.aggregation g.admitted settings) (are_new g a r table accumulator reservation) ≡ None)
+      × (settings_of s.plan ≡ given_settings settings)
+      × Staged run.stage script.closing
+      × Ran (setup_in s) (memory_of s) script script' (vec_items run.replies) (model_of s) s.reservation
+  Runs settings table accumulator reservation script (Err back) script' =
+      ((e : Refusal) → settings_refusal back.fault ≡ Some e → settings_fault (given_setup a.aggregation g.admitted settings) (are_new g a r table accumulator reservation) ≡ Some e)
+      × Returned settings table accumulator reservation back
+      × (script' ≡ script)

@@ -4,11 +4,11 @@ use Rattle.std.specs.declared.alloc.Global.{Global}
 use Rattle.cells.specs.Rows.{CellOf, overlaid}
 use Rattle.output.specs.Slices.{value_of, flag_of, flat}
 use Rattle.model.specs.Steps as steps
-use Rattle.model.specs.Steps.{Request, offer, take, finish, accepted, refused, handed, nothing, closed}
+use Rattle.model.specs.Steps.{Request, offer, take, finish, closed}
 use Rattle.runs.specs.Noted.{Noted}
-use Rattle.stream.specs.Refusals.{offer_refusal, take_refusal}
+use Rattle.stream.specs.Refusals.{offer_answer, take_answer}
 use Rattle.runs.specs.declared.script.Answer.{Answer}
-use Rattle.runs.specs.declared.script.Answer.TheVariants.{Accepted, Refused, Handed, Nothing, TooShort, Closed}
+use Rattle.runs.specs.declared.script.Answer.TheVariants.{Offered, Took, Finished}
 use Rattle.runs.specs.declared.script.Buffers.{Buffers}
 use Rattle.runs.specs.declared.script.Call.{Call}
 use Rattle.runs.specs.declared.script.Call.TheVariants.{Offer, Take}
@@ -50,12 +50,9 @@ slices_of s = map call_slices (vec_items s.reading) ++ closing_slices s.closing
 -- ---- replies
 
 abbrev pub answer_of : Answer → steps.Answer
-answer_of Accepted = accepted
-answer_of (Refused e) = refused (offer_refusal e)
-answer_of (Handed n) = handed n
-answer_of Nothing = nothing
-answer_of (TooShort e) = refused (take_refusal e)
-answer_of Closed = closed
+answer_of (Offered res) = offer_answer res
+answer_of (Took res) = take_answer res
+answer_of Finished = closed
 
 -- an answer, the bytes reserved after it, and the reservation's last answer
 abbrev pub tells : Reply → steps.Answer × ℕ × Bool

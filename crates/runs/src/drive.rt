@@ -1,14 +1,10 @@
 //! The calls, one after the other.
 
 ghost use Rattle.std.specs.Prelude.{◌≡◌, ◌+◌, ◌-◌, ◌^◌, ◌≤◌, min, false, List, map, length, vec_len, vec_capacity};
-ghost use Rattle.groups.specs.Held.{Narrow};
 ghost use Rattle.model.specs.Steps.{offer};
-ghost use Rattle.runs.specs.Noted.{Noted, LeadsNoting};
-ghost use Rattle.model.specs.Law.{Sensible};
-ghost use Rattle.stream.specs.Refusals.{take_answer};
-ghost use Rattle.stream.specs.Streams.{model_of, setup_in, meaning};
-ghost use Rattle.runs.specs.Scripts.{take_of, request_of, requests_of, slices, call_slices, answer_of, tells};
-ghost use Rattle.runs.specs.Ran.{Called, Walked, Runs};
+ghost use Rattle.runs.specs.Noted.{Noted};
+ghost use Rattle.runs.specs.Scripts.{take_of, request_of, requests_of, slices, call_slices, tells};
+ghost use Rattle.runs.specs.Ran.{LeadsTo, CalledOn, WalkedOn, Runs};
 
 use crate::script::{Answer, Buffers, Call, Reply, Run, Script, Stage};
 use accumulators::GroupsAccumulator;
@@ -16,7 +12,7 @@ use group_values::GroupValues;
 use groups::{Settings, SettingsFault};
 use memory::MemoryReservation;
 use std::alloc::Global;
-use stream::{ClosingStream, GroupedHashAggregateStream, StreamRefused, TakeFault};
+use stream::{ClosingStream, GroupedHashAggregateStream, StreamRefused};
 
 /// An answer, with what the reservation holds then.
 fn reply<R: MemoryReservation>(answer: Answer, reservation: &R) -> Reply
@@ -31,26 +27,16 @@ fn reply<R: MemoryReservation>(answer: Answer, reservation: &R) -> Reply
     }
 }
 
-fn took(res: Result<Option<usize>, TakeFault>) -> Answer
-    ensures { answer_of result ≡ take_answer res }
-{
-    match res {
-        Ok(Some(rows)) => Answer::Handed(rows),
-        Ok(None) => Answer::Nothing,
-        Err(fault) => Answer::TooShort(fault),
-    }
-}
-
 /// Takes rows into the slices of a call.
 fn take_into<G: GroupValues, A: GroupsAccumulator, R: MemoryReservation>(
     stream: &mut GroupedHashAggregateStream<G, A, R>,
     out: &mut Buffers,
 ) -> Reply
-    ensures called { Narrow A.aggregation → Called (setup_in A.aggregation G.admitted stream.old) (meaning R.bytes R.granted R.asks) (model_of G.keys A.states stream.old) stream.old.reservation (take_of out.old) (slices out.old) (slices out.new) result (model_of G.keys A.states stream.new) stream.new.reservation }
+    ensures called { CalledOn stream.old (take_of out.old) (slices out.old) (slices out.new) result stream.new }
     ensures plan { stream.new.plan ≡ stream.old.plan }
     ensures request { take_of out.new ≡ take_of out.old }
 {
-    let answer = took(stream.take(&mut out.values, &mut out.flags));
+    let answer = Answer::Took(stream.take(&mut out.values, &mut out.flags));
     reply(answer, stream.reservation())
 }
 
@@ -59,13 +45,10 @@ fn offer_from<G: GroupValues, A: GroupsAccumulator, R: MemoryReservation>(
     stream: &mut GroupedHashAggregateStream<G, A, R>,
     batch: &Buffers,
 ) -> Reply
-    ensures called { Narrow A.aggregation → Called (setup_in A.aggregation G.admitted stream.old) (meaning R.bytes R.granted R.asks) (model_of G.keys A.states stream.old) stream.old.reservation (offer batch.now.values.items batch.now.flags.items) (slices batch.now) (slices batch.now) result (model_of G.keys A.states stream.new) stream.new.reservation }
+    ensures called { CalledOn stream.old (offer batch.now.values.items batch.now.flags.items) (slices batch.now) (slices batch.now) result stream.new }
     ensures plan { stream.new.plan ≡ stream.old.plan }
 {
-    let answer = match stream.offer(&batch.values, &batch.flags) {
-        Ok(()) => Answer::Accepted,
-        Err(fault) => Answer::Refused(fault),
-    };
+    let answer = Answer::Offered(stream.offer(&batch.values, &batch.flags));
     reply(answer, stream.reservation())
 }
 
@@ -74,7 +57,7 @@ fn make<G: GroupValues, A: GroupsAccumulator, R: MemoryReservation>(
     stream: &mut GroupedHashAggregateStream<G, A, R>,
     call: &mut Call,
 ) -> Reply
-    ensures called { Narrow A.aggregation → Called (setup_in A.aggregation G.admitted stream.old) (meaning R.bytes R.granted R.asks) (model_of G.keys A.states stream.old) stream.old.reservation (request_of call.old) (call_slices call.old) (call_slices call.new) result (model_of G.keys A.states stream.new) stream.new.reservation }
+    ensures called { CalledOn stream.old (request_of call.old) (call_slices call.old) (call_slices call.new) result stream.new }
     ensures plan { stream.new.plan ≡ stream.old.plan }
     ensures request { request_of call.new ≡ request_of call.old }
 {
@@ -91,9 +74,9 @@ fn read<G: GroupValues, A: GroupsAccumulator, R: MemoryReservation>(
     replies: &mut Vec<Reply>,
 )
     requires { vec_len replies.old + length calls.old ≤ vec_capacity replies.old }
-    ensures walked { Narrow A.aggregation → (h : List Noted) → LeadsNoting (setup_in A.aggregation G.admitted stream.old) (meaning R.bytes R.granted R.asks) h (model_of G.keys A.states stream.old) stream.old.reservation → stream.old.closing ≡ false → Walked (setup_in A.aggregation G.admitted stream.old) (meaning R.bytes R.granted R.asks) h (map request_of calls.old) (map call_slices calls.old) (map call_slices calls.new) (map tells replies.old.items) (map tells replies.new.items) (model_of G.keys A.states stream.new) stream.new.reservation }
+    ensures walked { (h : List Noted) → LeadsTo stream.old h → stream.old.closing ≡ false → WalkedOn stream.old h (map request_of calls.old) (map call_slices calls.old) (map call_slices calls.new) (map tells replies.old.items) (map tells replies.new.items) stream.new }
     ensures plan { stream.new.plan ≡ stream.old.plan }
-    ensures closing { Narrow A.aggregation → stream.new.closing ≡ stream.old.closing }
+    ensures closing { stream.new.closing ≡ stream.old.closing }
     ensures requests { map request_of calls.new ≡ map request_of calls.old }
     ensures len { vec_len replies.new ≡ vec_len replies.old + length calls.old }
     ensures capacity { vec_capacity replies.new ≡ vec_capacity replies.old }
@@ -109,11 +92,11 @@ fn drain_into<G: GroupValues, A: GroupsAccumulator, R: MemoryReservation>(
     stream: &mut ClosingStream<G, A, R>,
     out: &mut Buffers,
 ) -> Reply
-    ensures called { Narrow A.aggregation → Called (setup_in A.aggregation G.admitted stream.old.stream) (meaning R.bytes R.granted R.asks) (model_of G.keys A.states stream.old.stream) stream.old.stream.reservation (take_of out.old) (slices out.old) (slices out.new) result (model_of G.keys A.states stream.new.stream) stream.new.stream.reservation }
+    ensures called { CalledOn stream.old.stream (take_of out.old) (slices out.old) (slices out.new) result stream.new.stream }
     ensures plan { stream.new.stream.plan ≡ stream.old.stream.plan }
     ensures request { take_of out.new ≡ take_of out.old }
 {
-    let answer = took(stream.take(&mut out.values, &mut out.flags));
+    let answer = Answer::Took(stream.take(&mut out.values, &mut out.flags));
     reply(answer, stream.reservation())
 }
 
@@ -124,7 +107,7 @@ fn drain<G: GroupValues, A: GroupsAccumulator, R: MemoryReservation>(
     replies: &mut Vec<Reply>,
 )
     requires { vec_len replies.old + length takes.old ≤ vec_capacity replies.old }
-    ensures walked { Narrow A.aggregation → (h : List Noted) → LeadsNoting (setup_in A.aggregation G.admitted stream.old.stream) (meaning R.bytes R.granted R.asks) h (model_of G.keys A.states stream.old.stream) stream.old.stream.reservation → Walked (setup_in A.aggregation G.admitted stream.old.stream) (meaning R.bytes R.granted R.asks) h (map take_of takes.old) (map slices takes.old) (map slices takes.new) (map tells replies.old.items) (map tells replies.new.items) (model_of G.keys A.states stream.new.stream) stream.new.stream.reservation }
+    ensures walked { (h : List Noted) → LeadsTo stream.old.stream h → WalkedOn stream.old.stream h (map take_of takes.old) (map slices takes.old) (map slices takes.new) (map tells replies.old.items) (map tells replies.new.items) stream.new.stream }
     ensures plan { stream.new.stream.plan ≡ stream.old.stream.plan }
     ensures requests { map take_of takes.new ≡ map take_of takes.old }
 {
@@ -162,7 +145,7 @@ pub fn run<G: GroupValues, A: GroupsAccumulator, R: MemoryReservation>(
     reservation: R,
     script: &mut Script,
 ) -> Result<Run<G, A, R>, StreamRefused<G, A, R>>
-    ensures { Runs A.aggregation G.admitted G.keys A.states (meaning R.bytes R.granted R.asks) settings group_values accumulator reservation script.old result script.new }
+    ensures { Runs settings group_values accumulator reservation script.old result script.new }
 {
     let Ok(mut replies) = Vec::with_capacity(heap, script.len()) else {
         return Err(StreamRefused {
@@ -188,7 +171,7 @@ pub fn run<G: GroupValues, A: GroupsAccumulator, R: MemoryReservation>(
         });
     };
     let mut closing = stream.finish();
-    replies.push_reserved(reply(Answer::Closed, closing.reservation()));
+    replies.push_reserved(reply(Answer::Finished, closing.reservation()));
     drain(&mut closing, takes, &mut replies);
     Ok(Run {
         stage: Stage::Closing(closing),

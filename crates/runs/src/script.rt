@@ -1,5 +1,8 @@
 //! The calls to make, and what came of them.
 
+use accumulators::GroupsAccumulator;
+use group_values::GroupValues;
+use memory::MemoryReservation;
 use stream::{ClosingStream, GroupedHashAggregateStream, OfferFault, TakeFault};
 
 /// The two slices of a call.
@@ -29,12 +32,9 @@ pub struct Script {
 /// What a call answered.
 #[derive(Clone, Copy)]
 pub enum Answer {
-    Accepted,
-    Refused(OfferFault),
-    Handed(usize),
-    Nothing,
-    TooShort(TakeFault),
-    Closed,
+    Offered(Result<(), OfferFault>),
+    Took(Result<Option<usize>, TakeFault>),
+    Finished,
 }
 
 /// A call's answer, and the reservation after it.
@@ -47,14 +47,14 @@ pub struct Reply {
 
 /// The stream that the calls led to.
 #[derive(Drop)]
-pub enum Stage<G, A, R> {
+pub enum Stage<G: GroupValues, A: GroupsAccumulator, R: MemoryReservation> {
     Reading(GroupedHashAggregateStream<G, A, R>),
     Closing(ClosingStream<G, A, R>),
 }
 
 /// What came of a script: the stream, and a reply for each call, finish included.
 #[derive(Drop)]
-pub struct Run<G, A, R> {
+pub struct Run<G: GroupValues, A: GroupsAccumulator, R: MemoryReservation> {
     pub stage: Stage<G, A, R>,
     pub replies: Vec<Reply>,
 }

@@ -85,12 +85,12 @@ fn outcome(
 /// An answer as a word, and the rows that were handed out.
 fn word(answer: Answer) -> (&'static str, usize) {
     match answer {
-        Answer::Accepted => ("accepted", 0),
-        Answer::Refused(_) => ("refused", 0),
-        Answer::Handed(rows) => ("handed", rows),
-        Answer::Nothing => ("nothing", 0),
-        Answer::TooShort(_) => ("too short", 0),
-        Answer::Closed => ("closed", 0),
+        Answer::Offered(Ok(())) => ("accepted", 0),
+        Answer::Offered(Err(_)) => ("refused", 0),
+        Answer::Took(Ok(Some(rows))) => ("handed", rows),
+        Answer::Took(Ok(None)) => ("nothing", 0),
+        Answer::Took(Err(_)) => ("too short", 0),
+        Answer::Finished => ("closed", 0),
     }
 }
 

@@ -1,5 +1,5 @@
 -- A batch is grouped, or passed on, as is defined.
-use Rattle.std.proofs.Common.{◌≡◌, ℕ, ◌+◌, ◌≤◌, Bool, true, List, [], length, take, sym, refl, ap, ◌∙◌, take_all}
+use Rattle.std.proofs.Common.{◌≡◌, ℕ, ◌+◌, Bool, true, List, [], length, sym, refl, ap, ◌∙◌}
 use Rattle.cells.specs.Rows.{CellOf}
 use Rattle.cells.specs.Views.{view_rows}
 use Rattle.model.specs.Setups.{Setup}

@@ -8,7 +8,7 @@ use Rattle.model.specs.Machine.{Model}
 use Rattle.model.specs.Steps as steps
 use Rattle.model.specs.Steps.{finish, closed}
 use Rattle.runs.specs.Noted.{noted, LeadsNoting}
-use Rattle.stream.specs.Streams.{model_of, meaning}
+use Rattle.stream.specs.Streams.{model_of, memory_of}
 use Rattle.stream.specs.Calls.{Makes}
 use Rattle.stream.proofs.Offering.{lawful_asks}
 use Rattle.runs.specs.declared.script.Buffers.{Buffers}
@@ -17,7 +17,7 @@ use Rattle.runs.specs.declared.script.Stage.TheVariants.{Reading, Closing}
 use Rattle.runs.specs.declared.script.Script.{Script}
 use Rattle.runs.specs.Scripts.{request_of, take_of, slices, call_slices, closing_requests, closing_slices, requests_of, tells}
 use Rattle.runs.specs.Ran.{Staged, Walked, Ran}
-use Rattle.runs.proofs.Running.{new_leads, told-closed, ran_reading, closed-leads, ran_closing}
+use Rattle.runs.proofs.Running.{new_leads, told_finished, ran_reading, closed-leads, ran_closing}
 use Rattle.runs.proofs.drive.run.Goals as goal
 
 all_calls : (s : Script) → length (requests_of s) ≡ vec_len s.reading + length (closing_requests s.closing)
@@ -30,15 +30,15 @@ read-requires g c =
 
 pub returns-in_default-closing : goal.returns-in_default-closing
 returns-in_default-closing g c =
-    let w = meaning g.R.MemoryReservation.bytes g.R.MemoryReservation.granted g.R.MemoryReservation.asks in
     let setup : Plan → Setup g.row.A-State.Denot = λ p. setup_of g.A.GroupsAccumulator.aggregation g.G.GroupValues.admitted p in
     let script = c.args.script.now in
     let begun = c.in_ok-stream.stream in
+    let w = memory_of begun in
     let founded = c.in_ok-stream.ensures in
     let begins = founded.1 in
-    let model = model_of g.G.GroupValues.keys g.A.GroupsAccumulator.states begun in
+    let model = model_of begun in
     let s = c.read.new.stream in
-    let m = model_of g.G.GroupValues.keys g.A.GroupsAccumulator.states s in
+    let m = model_of s in
     let xs = vec_items script.reading in
     let same_xs : c.deref_mut.result.now ≡ xs = c.deref_mut.ensures.value in
     let xs' = c.read.new.calls in
@@ -48,7 +48,7 @@ returns-in_default-closing g c =
     let walked : Walked (setup begun.plan) w [] (map request_of xs) (map call_slices xs) (map call_slices xs') [] (map tells rs) m s.reservation =
     subst (λ (ts : List (steps.Answer × ℕ × Bool)). Walked (setup begun.plan) w [] (map request_of xs) (map call_slices xs) (map call_slices xs') ts (map tells rs) m s.reservation) (ap (map tells) c.in-Ok.ensures.items)
     (subst (λ (zs : List Call). Walked (setup begun.plan) w [] (map request_of zs) (map call_slices zs) (map call_slices xs') (map tells (vec_items c.in-Ok.replies)) (map tells rs) m s.reservation) same_xs
-    (c.read.ensures.walked begins.narrow []
+    (c.read.ensures.walked []
     (new_leads (setup begun.plan) w model begun.reservation c.args.reservation begins.model begins.reservation_is begins.empty begins.granted)
     (ap (λ (x : Model g.row.A-State.Denot). x.closing) begins.model))) in
     let kept : map request_of xs' ≡ map request_of xs = c.read.ensures.requests ∙ ap (map request_of) same_xs in
@@ -105,15 +105,15 @@ drain-requires g c =
 
 pub returns : goal.returns
 returns g c =
-    let w = meaning g.R.MemoryReservation.bytes g.R.MemoryReservation.granted g.R.MemoryReservation.asks in
     let setup : Plan → Setup g.row.A-State.Denot = λ p. setup_of g.A.GroupsAccumulator.aggregation g.G.GroupValues.admitted p in
     let script = c.args.script.now in
     let begun = c.in_ok-stream.stream in
+    let w = memory_of begun in
     let founded = c.in_ok-stream.ensures in
     let begins = founded.1 in
-    let model = model_of g.G.GroupValues.keys g.A.GroupsAccumulator.states begun in
+    let model = model_of begun in
     let s = c.read.new.stream in
-    let m = model_of g.G.GroupValues.keys g.A.GroupsAccumulator.states s in
+    let m = model_of s in
     let xs = vec_items script.reading in
     let same_xs : c.deref_mut.result.now ≡ xs = c.deref_mut.ensures.value in
     let xs' = c.read.new.calls in
@@ -123,7 +123,7 @@ returns g c =
     let walked : Walked (setup begun.plan) w [] (map request_of xs) (map call_slices xs) (map call_slices xs') [] (map tells rs) m s.reservation =
     subst (λ (ts : List (steps.Answer × ℕ × Bool)). Walked (setup begun.plan) w [] (map request_of xs) (map call_slices xs) (map call_slices xs') ts (map tells rs) m s.reservation) (ap (map tells) c.in-Ok.ensures.items)
     (subst (λ (zs : List Call). Walked (setup begun.plan) w [] (map request_of zs) (map call_slices zs) (map call_slices xs') (map tells (vec_items c.in-Ok.replies)) (map tells rs) m s.reservation) same_xs
-    (c.read.ensures.walked begins.narrow []
+    (c.read.ensures.walked []
     (new_leads (setup begun.plan) w model begun.reservation c.args.reservation begins.model begins.reservation_is begins.empty begins.granted)
     (ap (λ (x : Model g.row.A-State.Denot). x.closing) begins.model))) in
     let kept : map request_of xs' ≡ map request_of xs = c.read.ensures.requests ∙ ap (map request_of) same_xs in
@@ -135,16 +135,16 @@ returns g c =
     let script' : Script = record { reading = with_items script.reading xs'; closing = Some (with_items takes ys') } in
     let put_takes : vec_items (with_items takes ys') ≡ ys' = with_items_is takes ys' (c.drain.auto.takes ∙ c.deref_mut-2.ensures.len) in
     let t = c.finish-closing.result.stream in
-    let n = model_of g.G.GroupValues.keys g.A.GroupsAccumulator.states t in
+    let n = model_of t in
     let z = c.drain.new.stream.stream in
-    let last = model_of g.G.GroupValues.keys g.A.GroupsAccumulator.states z in
+    let last = model_of z in
     let plan : t.plan ≡ begun.plan = c.finish-closing.ensures.plan ∙ c.read.ensures.plan in
-    let closes = subst (λ (p : Plan). Makes (setup p) w m s.reservation finish closed [] n t.reservation) c.read.ensures.plan (c.finish-closing.ensures.finishes begins.narrow) in
-    let reads : m.closing ≡ false = c.read.ensures.closing begins.narrow ∙ ap (λ (x : Model g.row.A-State.Denot). x.closing) begins.model in
+    let closes = subst (λ (p : Plan). Makes (setup p) w m s.reservation finish closed [] n t.reservation) c.read.ensures.plan (c.finish-closing.ensures.finishes) in
+    let reads : m.closing ≡ false = c.read.ensures.closing ∙ ap (λ (x : Model g.row.A-State.Denot). x.closing) begins.model in
     let rs₂ = vec_items c.push_reserved.new.self in
     let reply = c.reply.result in
     let tells-so : tells reply ≡ (closed, w.bytes t.reservation, w.granted t.reservation) =
-    told-closed reply (w.bytes t.reservation) (w.granted t.reservation) c.reply.ensures.answer (c.reply.ensures.bytes ∙ ap (λ x. w.bytes x) c.reservation.ensures)
+    told_finished reply (w.bytes t.reservation) (w.granted t.reservation) c.reply.ensures.answer (c.reply.ensures.bytes ∙ ap (λ x. w.bytes x) c.reservation.ensures)
     (c.reply.ensures.granted ∙ ap (λ x. w.granted x) c.reservation.ensures) in
     let led = closed-leads (setup begun.plan) w begins.sensible lawful script script' xs xs' rs m s.reservation walked kept n t.reservation closes reads rs₂ reply c.push_reserved.ensures.items tells-so in
     let history = noted finish closed [] (w.bytes t.reservation) (w.granted t.reservation) ∷ walked.events in
@@ -154,7 +154,7 @@ returns g c =
     (subst (λ (p : Plan).
     LeadsNoting (setup p) w history n t.reservation
     → Walked (setup p) w history (map take_of c.deref_mut-2.result.now) (map slices c.deref_mut-2.result.now) (map slices ys') (map tells rs₂) (map tells rs₃) last z.reservation) plan
-    (λ leads. c.drain.ensures.walked begins.narrow history leads) led) in
+    (λ leads. c.drain.ensures.walked history leads) led) in
     let asked : map request_of xs ++ closing_requests script.closing ≡ map request_of xs ++ finish ∷ map take_of ys = ap (λ x. map request_of xs ++ closing_requests x) some in
     let sliced : map call_slices xs ++ closing_slices script.closing ≡ map call_slices xs ++ ([], []) ∷ map slices ys = ap (λ x. map call_slices xs ++ closing_slices x) some in (
       founded.0,

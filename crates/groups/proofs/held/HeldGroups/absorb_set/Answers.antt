@@ -1,4 +1,4 @@
-use Rattle.std.proofs.Common.{ℕ, List, map, vec_items, ap, ◌∙◌}
+use Rattle.std.proofs.Common.{ℕ, List, vec_items, ap, ◌∙◌}
 use Rattle.cells.specs.Rows.{CellOf}
 use Rattle.cells.specs.Views.{view_rows}
 use Rattle.order.specs.declared.group_ordering.GroupOrdering.{GroupOrdering}

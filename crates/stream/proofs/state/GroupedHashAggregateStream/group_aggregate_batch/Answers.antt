@@ -9,7 +9,10 @@ returns g c =
     let s = c.args.self.now in
     let w = memory_of s in
     record {
-      does = record { comes = grouped_comes (setup_in s) w (model_of s) (view_rows c.args.batch.now)
-          c.num_rows.result c.num_rows.ensures.value c.num_rows-2.result c.num_rows-2.ensures.value _ c.absorb.ensures s.reservation _ _ (offer_answer c.settle.result) c.settle.ensures.does.comes; plan = c.settle.ensures.does.plan };
+      does = record {
+        comes = grouped_comes (setup_in s) w (model_of s) (view_rows c.args.batch.now)
+            c.num_rows.result c.num_rows.ensures.value c.num_rows-2.result c.num_rows-2.ensures.value _ c.absorb.ensures s.reservation _ _ (offer_answer c.settle.result) c.settle.ensures.does.comes;
+        plan = c.settle.ensures.does.plan;
+      };
       refused = c.settle.ensures.refused;
     }

@@ -14,8 +14,11 @@ returns-in-ReadingInput-Batch g c =
     let w = memory_of s in
     let arm = c.in-ReadingInput-Batch in
     record {
-      does = record { comes = handled-comes (setup_in s) w (model_of s)
-          c.args.event (Batch arm.batch) arm.is-1 grouping (ap (λ x. phase_of x (waiting_rows s.waiting)) arm.is-0)
-          s.reservation _ _ (offer_answer c.group_aggregate_batch.result) c.group_aggregate_batch.ensures.does.comes; plan = c.group_aggregate_batch.ensures.does.plan };
+      does = record {
+        comes = handled-comes (setup_in s) w (model_of s)
+            c.args.event (Batch arm.batch) arm.is-1 grouping (ap (λ x. phase_of x (waiting_rows s.waiting)) arm.is-0)
+            s.reservation _ _ (offer_answer c.group_aggregate_batch.result) c.group_aggregate_batch.ensures.does.comes;
+        plan = c.group_aggregate_batch.ensures.does.plan;
+      };
       unaltered = unless-never c.group_aggregate_batch.result _ c.group_aggregate_batch.ensures.refused;
     }

@@ -1,4 +1,4 @@
-use Rattle.std.proofs.Common.{◌≡◌, ℕ, [], length, Some, None, sym, refl, ap, ◌∙◌, arith}
+use Rattle.std.proofs.Common.{◌≡◌, ℕ, [], Some, None, sym, refl, ap, ◌∙◌}
 use Rattle.std.proofs.lemmas.Result.{err_from_is_err_and}
 use Rattle.cells.specs.Faults.{batch_fault}
 use Rattle.cells.specs.Views.{view_rows, rows_in}
@@ -6,7 +6,7 @@ use Rattle.model.specs.Steps.{offer as offering}
 use Rattle.stream.specs.declared.faults.OfferFault.{OfferFault}
 use Rattle.stream.specs.Refusals.{offer_refusal, offer_fault_of, offer_answer}
 use Rattle.stream.specs.Streams.{model_of, setup_in, memory_of}
-use Rattle.stream.proofs.Offering.{unless-kept, lawful_asks, makes, fault_reading, fault_batch, fault_total, fault_groups, refused-comes, accepted-comes, few_rows, countable}
+use Rattle.stream.proofs.Offering.{unless-kept, lawful_asks, makes, fault_reading, fault_batch, fault_total, fault_groups, refused-comes, accepted-comes, countable}
 use Rattle.stream.proofs.state.GroupedHashAggregateStream.offer.Goals as goal
 
 pub returns-in_err-ask_reading : goal.returns-in_err-ask_reading

@@ -12,9 +12,12 @@ returns-then-is_limited g c =
     let u = setup_in s in
     let m = model_of s in
     record {
-      does = record { comes = limited-comes u w m c.args.input_rows s.reservation _ _
-          (ap (limited u.settings.soft_limit) (sym c.len.ensures) ∙ sym c.is_limited.ensures ∙ c.if-is_limited.true)
-          c.set_input_done_and_produce_output.ensures.ends; plan = c.set_input_done_and_produce_output.ensures.plan };
+      does = record {
+        comes = limited-comes u w m c.args.input_rows s.reservation _ _
+            (ap (limited u.settings.soft_limit) (sym c.len.ensures) ∙ sym c.is_limited.ensures ∙ c.if-is_limited.true)
+            c.set_input_done_and_produce_output.ensures.ends;
+        plan = c.set_input_done_and_produce_output.ensures.plan;
+      };
       refused = tt;
     }
 
@@ -25,9 +28,12 @@ returns-in-Some g c =
     let u = setup_in s in
     let m = model_of s in
     record {
-      does = record { comes = prefix_comes u w m c.args.input_rows s.reservation _ _
-          (ap (limited u.settings.soft_limit) (sym c.len.ensures) ∙ sym c.is_limited.ensures ∙ c.if-is_limited.false)
-          c.emit_to.result c.emit_to.ensures c.in-Some.emit_to c.in-Some.is c.emit.ensures.asks.0 c.emit.ensures.model c.emit.ensures.asks.1; plan = c.emit.ensures.plan };
+      does = record {
+        comes = prefix_comes u w m c.args.input_rows s.reservation _ _
+            (ap (limited u.settings.soft_limit) (sym c.len.ensures) ∙ sym c.is_limited.ensures ∙ c.if-is_limited.false)
+            c.emit_to.result c.emit_to.ensures c.in-Some.emit_to c.in-Some.is c.emit.ensures.asks.0 c.emit.ensures.model c.emit.ensures.asks.1;
+        plan = c.emit.ensures.plan;
+      };
       refused = tt;
     }
 
@@ -38,10 +44,13 @@ returns-then-is_partial g c =
     let u = setup_in s in
     let m = model_of s in
     record {
-      does = record { comes = partial_comes u w m c.args.input_rows s.reservation _ _
-          (ap (limited u.settings.soft_limit) (sym c.len.ensures) ∙ sym c.is_limited.ensures ∙ c.if-is_limited.false)
-          c.emit_to.result c.emit_to.ensures (offer_answer c.probe_and_reserve.result) c.in_default.is (sym c.is_partial.ensures ∙ c.if-is_partial.true)
-          c.probe_and_reserve.ensures.does.comes; plan = c.probe_and_reserve.ensures.does.plan };
+      does = record {
+        comes = partial_comes u w m c.args.input_rows s.reservation _ _
+            (ap (limited u.settings.soft_limit) (sym c.len.ensures) ∙ sym c.is_limited.ensures ∙ c.if-is_limited.false)
+            c.emit_to.result c.emit_to.ensures (offer_answer c.probe_and_reserve.result) c.in_default.is (sym c.is_partial.ensures ∙ c.if-is_partial.true)
+            c.probe_and_reserve.ensures.does.comes;
+        plan = c.probe_and_reserve.ensures.does.plan;
+      };
       refused = c.probe_and_reserve.ensures.refused;
     }
 
@@ -52,9 +61,12 @@ returns-else-is_partial g c =
     let u = setup_in s in
     let m = model_of s in
     record {
-      does = record { comes = single_comes u w m c.args.input_rows s.reservation _ _
-          (ap (limited u.settings.soft_limit) (sym c.len.ensures) ∙ sym c.is_limited.ensures ∙ c.if-is_limited.false)
-          c.emit_to.result c.emit_to.ensures (offer_answer c.try_update_memory_reservation.result) c.in_default.is (sym c.is_partial.ensures ∙ c.if-is_partial.false)
-          c.try_update_memory_reservation.ensures.does.comes; plan = c.try_update_memory_reservation.ensures.does.plan };
+      does = record {
+        comes = single_comes u w m c.args.input_rows s.reservation _ _
+            (ap (limited u.settings.soft_limit) (sym c.len.ensures) ∙ sym c.is_limited.ensures ∙ c.if-is_limited.false)
+            c.emit_to.result c.emit_to.ensures (offer_answer c.try_update_memory_reservation.result) c.in_default.is (sym c.is_partial.ensures ∙ c.if-is_partial.false)
+            c.try_update_memory_reservation.ensures.does.comes;
+        plan = c.try_update_memory_reservation.ensures.does.plan;
+      };
       refused = c.try_update_memory_reservation.ensures.refused;
     }

@@ -3,7 +3,6 @@ use Rattle.std.proofs.lemmas.Bool.{eqb-true, eq-eqb}
 use Rattle.cells.specs.Rows.{CellOf, overlaid}
 use Rattle.output.specs.Slices.{value_of, flag_of, flat}
 use Rattle.output.specs.Waits.{waiting_rows}
-use Rattle.groups.specs.Held.{Narrow}
 use Rattle.model.specs.Setups.{out_width}
 use Rattle.model.specs.Machine.{waiting}
 use Rattle.model.specs.Steps.{piece, take as taking}

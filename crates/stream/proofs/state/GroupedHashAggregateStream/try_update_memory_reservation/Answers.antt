@@ -15,8 +15,11 @@ returns-then-update_memory_reservation g c =
     let w = memory_of s in
     let one = c.update_memory_reservation in
     record {
-      does = record { comes = granted_comes (setup_in s) w (model_of s) s.reservation
-          _ _ one.result c.if-update_memory_reservation.true one.ensures.model (one.ensures.asks); plan = one.ensures.plan };
+      does = record {
+        comes = granted_comes (setup_in s) w (model_of s) s.reservation
+            _ _ one.result c.if-update_memory_reservation.true one.ensures.model (one.ensures.asks);
+        plan = one.ensures.plan;
+      };
       refused = tt;
     }
 
@@ -30,13 +33,16 @@ returns-in-Some g c =
     let m = model_of s in
     let n = model_of t in
     record {
-      does = record { comes = comes_here setup w s.plan t.plan m n one.ensures.plan one.ensures.model (λ p x. reserved (setup p) x) s.reservation _ _ _
-          (early_comes (setup t.plan) w n s.reservation t.reservation one.result c.if-update_memory_reservation.false
-          (asks_there setup w s.plan t.plan m n one.ensures.plan one.ensures.model _ _ _ (one.ensures.asks))
-          c.is_partial.result c.is_partial.ensures c.if-is_partial.true (omega (arith, c.if-held-gt1.true, c.len-held.ensures))
-          c.oom_emit_to.result c.in-Some.emit_to
-          (c.oom_emit_to.ensures ∙ ap (oom_emit_to n.held.order) (c.wanted.ensures ∙ ap (wanted (setup t.plan).settings.batch_size) c.len-held.ensures))
-          c.in-Some.is _ _ c.emit.ensures.asks.0 c.emit.ensures.model c.emit.ensures.asks.1); plan = c.emit.ensures.plan ∙ one.ensures.plan };
+      does = record {
+        comes = comes_here setup w s.plan t.plan m n one.ensures.plan one.ensures.model (λ p x. reserved (setup p) x) s.reservation _ _ _
+            (early_comes (setup t.plan) w n s.reservation t.reservation one.result c.if-update_memory_reservation.false
+            (asks_there setup w s.plan t.plan m n one.ensures.plan one.ensures.model _ _ _ (one.ensures.asks))
+            c.is_partial.result c.is_partial.ensures c.if-is_partial.true (omega (arith, c.if-held-gt1.true, c.len-held.ensures))
+            c.oom_emit_to.result c.in-Some.emit_to
+            (c.oom_emit_to.ensures ∙ ap (oom_emit_to n.held.order) (c.wanted.ensures ∙ ap (wanted (setup t.plan).settings.batch_size) c.len-held.ensures))
+            c.in-Some.is _ _ c.emit.ensures.asks.0 c.emit.ensures.model c.emit.ensures.asks.1);
+        plan = c.emit.ensures.plan ∙ one.ensures.plan;
+      };
       refused = tt;
     }
 
@@ -50,10 +56,13 @@ returns-in_default g c =
     let m = model_of s in
     let n = model_of t in
     record {
-      does = record { comes = comes_here setup w s.plan t.plan m n one.ensures.plan one.ensures.model (λ p x. reserved (setup p) x) s.reservation _ _ _
-          (unfinished_comes (setup t.plan) w n s.reservation n t.reservation one.result c.if-update_memory_reservation.false (asks_there setup w s.plan t.plan m n one.ensures.plan one.ensures.model _ _ _ (one.ensures.asks)) refl
-          c.is_partial.result c.is_partial.ensures c.if-is_partial.true (omega (arith, c.if-held-gt1.true, c.len-held.ensures)) c.oom_emit_to.result
-          (c.oom_emit_to.ensures ∙ ap (oom_emit_to n.held.order) (c.wanted.ensures ∙ ap (wanted (setup t.plan).settings.batch_size) c.len-held.ensures)) c.in_default.is); plan = one.ensures.plan };
+      does = record {
+        comes = comes_here setup w s.plan t.plan m n one.ensures.plan one.ensures.model (λ p x. reserved (setup p) x) s.reservation _ _ _
+            (unfinished_comes (setup t.plan) w n s.reservation n t.reservation one.result c.if-update_memory_reservation.false (asks_there setup w s.plan t.plan m n one.ensures.plan one.ensures.model _ _ _ (one.ensures.asks)) refl
+            c.is_partial.result c.is_partial.ensures c.if-is_partial.true (omega (arith, c.if-held-gt1.true, c.len-held.ensures)) c.oom_emit_to.result
+            (c.oom_emit_to.ensures ∙ ap (oom_emit_to n.held.order) (c.wanted.ensures ∙ ap (wanted (setup t.plan).settings.batch_size) c.len-held.ensures)) c.in_default.is);
+        plan = one.ensures.plan;
+      };
       refused = tt;
     }
 
@@ -67,13 +76,16 @@ returns-else-is_partial g c =
     let m = model_of s in
     let n = model_of t in
     record {
-      does = record { comes = comes_here setup w s.plan t.plan m n one.ensures.plan one.ensures.model (λ p x. reserved (setup p) x) s.reservation _ _ _
-          (elim c.else-is_partial.branch [
-            | else-is_partial-via-then-is_partial+else-held-gt1 v ↦
-                few_comes (setup t.plan) w n s.reservation n t.reservation one.result c.if-update_memory_reservation.false (asks_there setup w s.plan t.plan m n one.ensures.plan one.ensures.model _ _ _ (one.ensures.asks)) refl
-                c.is_partial.result c.is_partial.ensures v.if-is_partial.true (omega (arith, v.if-held-gt1.false, c.len-held.ensures))
-            | else-is_partial-via-else-is_partial v ↦
-                single_comes (setup t.plan) w n s.reservation n t.reservation one.result c.if-update_memory_reservation.false (asks_there setup w s.plan t.plan m n one.ensures.plan one.ensures.model _ _ _ (one.ensures.asks)) refl c.is_partial.result c.is_partial.ensures v.if-is_partial.false
-          ]); plan = one.ensures.plan };
+      does = record {
+        comes = comes_here setup w s.plan t.plan m n one.ensures.plan one.ensures.model (λ p x. reserved (setup p) x) s.reservation _ _ _
+            (elim c.else-is_partial.branch [
+              | else-is_partial-via-then-is_partial+else-held-gt1 v ↦
+                  few_comes (setup t.plan) w n s.reservation n t.reservation one.result c.if-update_memory_reservation.false (asks_there setup w s.plan t.plan m n one.ensures.plan one.ensures.model _ _ _ (one.ensures.asks)) refl
+                  c.is_partial.result c.is_partial.ensures v.if-is_partial.true (omega (arith, v.if-held-gt1.false, c.len-held.ensures))
+              | else-is_partial-via-else-is_partial v ↦
+                  single_comes (setup t.plan) w n s.reservation n t.reservation one.result c.if-update_memory_reservation.false (asks_there setup w s.plan t.plan m n one.ensures.plan one.ensures.model _ _ _ (one.ensures.asks)) refl c.is_partial.result c.is_partial.ensures v.if-is_partial.false
+            ]);
+        plan = one.ensures.plan;
+      };
       refused = tt;
     }
