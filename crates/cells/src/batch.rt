@@ -18,6 +18,8 @@ pub enum BatchFault {
 }
 
 /// The rows in the caller's two slices: cell `c` of row `r` stands at `r * columns + c`.
+///
+/// Values and flags stay two slices, since callers have them so.
 #[derive(Clone, Copy)]
 pub struct Batch<'v, 'f> {
     pub(crate) values: &'v [i64],

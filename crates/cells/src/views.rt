@@ -7,7 +7,7 @@ ghost use Rattle.cells.specs.Views.{Views, view_rows};
 use crate::batch::{Batch, BatchFault, Cell, MAX_BATCH_ROWS};
 
 impl BatchFault {
-    /// The refusal's number.
+    /// The refusal's number, by which documents and programs name it.
     pub fn number(self) -> u32
         ensures { result ≡ (batch_refusal self).number }
     {

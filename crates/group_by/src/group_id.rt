@@ -19,7 +19,7 @@ pub enum GroupIdFault {
 }
 
 impl GroupIdFault {
-    /// The refusal's number.
+    /// The refusal's number, by which documents and programs name it.
     pub fn number(self) -> u32
         ensures { result ≡ (group_id_refusal self).number }
     {

@@ -35,10 +35,5 @@ module _ {S : Type 0} (u : Setup S) (rows : List (List CellOf)) where
     set_fails e =
         step ∙ ap (λ (b : Bool). or_else (option_map (λ t. (i, t)) (cond b (set_out u (get_or rows i []) (s + 1) (n - (s + 1))) (Some s))) (left-rows (i + 1))) e
 
-  pub row_ends : (n i s : ℕ) → n ≤ s → left-sets n i s ≡ left-rows (i + 1)
-  row_ends n i s l =
-      let none : n - s ≡ 0 = omega arith in
-      ap (λ (k : ℕ). or_else (option_map (λ t. (i, t)) (set_out u (get_or rows i []) s k)) (left-rows (i + 1))) none
-
   pub rows_end : (i : ℕ) → length rows ≤ i → left-rows i ≡ None
   rows_end i l = ap (key_out u i) (drop_all i rows l)

@@ -15,7 +15,7 @@ pub struct HeldGroups<G: GroupValues, A: GroupsAccumulator> {
     pub(crate) group_ordering: GroupOrdering,
     /// The keys of the batch's rows.
     pub(crate) current_group_keys: Vec<Key>,
-    /// The places of the batch's rows.
+    /// The places of the batch's rows, in a vector of their own: an accumulator is handed the places alone.
     pub(crate) current_group_indices: Vec<usize>,
     ghost keys_room: { 512 ≤ vec_capacity current_group_keys },
     ghost places_room: { 512 ≤ vec_capacity current_group_indices },

@@ -21,6 +21,8 @@ use cells::{Batch, EmitTo, MAX_GROUPS};
 use group_values::GroupValues;
 use output::{OutputRow, Waiting, converted_row, result_row, state_row};
 
+// The plan is lent to each step, since a stream keeps it while its groups change. Any accumulator may hold groups, so that
+// a row has room for a state is a premise here; a stream has it in its type.
 impl<G: GroupValues, A: GroupsAccumulator> HeldGroups<G, A> {
     /// Interns the keys of the batch's rows for a set, and keeps keys and places.
     fn intern_rows(&mut self, plan: &Plan, batch: &Batch<'_, '_>, set: usize)
@@ -34,6 +36,7 @@ impl<G: GroupValues, A: GroupsAccumulator> HeldGroups<G, A> {
         self.current_group_indices.clear();
         for row in 0..batch.num_rows() {
             let key = plan.row_key(batch, row, set);
+            // A key that stays out has a place past all groups, which accumulators pass over.
             let place = self.group_values.intern(&key).unwrap_or(MAX_GROUPS);
             self.current_group_keys.push_reserved(key);
             self.current_group_indices.push_reserved(place);
@@ -132,6 +135,7 @@ impl<G: GroupValues, A: GroupsAccumulator> HeldGroups<G, A> {
     pub fn first_refused(&self, plan: &Plan, batch: &Batch<'_, '_>) -> Option<(usize, usize)>
         ensures { result ≡ key_out (setup_of A.aggregation G.admitted plan.now) 0 (view_rows batch.now) }
     {
+        // Both loops end at the first such row and set.
         'scan: {
             for row in 0..batch.num_rows() {
                 for set in 0..plan.num_sets() {
@@ -149,6 +153,7 @@ impl<G: GroupValues, A: GroupsAccumulator> HeldGroups<G, A> {
         ensures { Narrow A.aggregation → result ≡ out_row (setup_of A.aggregation G.admitted plan.now) (slice_index_or (G.keys self.now.group_values) group []) (slice_index_or (A.states self.now.accumulator) group A.aggregation.neutral) }
     {
         let key = self.group_values.key(group);
+        // Two arms say which; a writer chosen beforehand would be called from afar.
         match plan.mode {
             AggregateMode::Partial => state_row(&key, &self.accumulator, group),
             AggregateMode::Single => result_row(&key, &self.accumulator, group),

@@ -13,6 +13,7 @@ use cells::{EmitTo, Key};
 use std::alloc::{AllocError, Global};
 
 /// What is known of the groups that are held.
+// One of three kinds; a trait object would need the heap.
 #[derive(Drop)]
 pub enum GroupOrdering {
     /// Nothing: a later row may belong to any of them.

@@ -11,7 +11,7 @@ pub const MAX_WAITING_ROWS: usize = 512;
 #[derive(Drop)]
 pub struct Waiting {
     pub(crate) rows: Vec<OutputRow>,
-    /// The rows before this place have been handed out.
+    /// The rows before this place have been handed out. A queue would move or wrap those that wait.
     pub(crate) at: usize,
     ghost within: { at ≤ vec_len rows },
     ghost few: { vec_len rows ≤ 512 },

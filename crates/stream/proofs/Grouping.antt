@@ -51,12 +51,5 @@ module _ {S R : Type 0} (u : Setup S) (w : Reservation R) (m : Model S) where
       (λ g h. same_handled e g h ∙ ap (λ (x : InputEvent). handled_in m.phase x g h) events ∙ ap (λ (x : Phase). handled_in x e₀ g h) phases)
       r m' r' a []
 
-  pub finish-comes : (e : InputEvent) → e ≡ End → (r : R) (m' : Model S) (r' : R) (a : Answer) → Comes w (handled u (as_closing m) e) r m' r' a []
-      → Comes w (λ g _. finished u m g) r m' r' closed []
-  finish-comes e at r m' r' a (g, h, qs, is, asked) = (
-    g,
-    h,
-    qs,
-    ap (λ (o : Outcome S). outcome o.model closed [] o.asked) (ap (λ (x : InputEvent). handled u (as_closing m) x g h) (sym at) ∙ is),
-    asked,
-  )
+  pub finish-comes : (r : R) (m' : Model S) (r' : R) (a : Answer) → Comes w (handled u (as_closing m) End) r m' r' a [] → Comes w (λ g _. finished u m g) r m' r' closed []
+  finish-comes r m' r' a (g, h, qs, is, asked) = (g, h, qs, ap (λ (o : Outcome S). outcome o.model closed [] o.asked) is, asked)

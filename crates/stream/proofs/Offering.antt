@@ -109,15 +109,6 @@ module _ {S R : Type 0} (u : Setup S) (w : Reservation R) (m : Model S) (values 
       (λ g h. ap (λ (x : Option Refusal). offered_if u x m rows g h) fault ∙ ap (λ (x : List (List CellOf)). accepted_in u m.phase m x g h) (sym view))
       r m' r' a []
 
--- a batch that is one has at most 512 rows
-pub few_rows : (C : ℕ) (values : List ℤ) (flags : List ℕ) → batch_fault C values flags ≡ None → length (rows_in C values flags) ≤ 512
-few_rows C values flags clean =
-    omega (arith, length-rows (length values / C) C (cells_of values flags), leb-true (length values / C) 512 (and_parts _ _ (sized-whole (sized C values flags) clean)).1)
-  where
-    sized-whole : (b : Bool) → cond b (flag_fault C flags) (Some (refusal 9 [])) ≡ None → b ≡ true
-    sized-whole true e = refl
-    sized-whole false e = never (cc)
-
 -- and rows that can be counted stay within 2^40
 pub countable : {S : Type 0} (u : Setup S) (m : Model S) (rows : List (List CellOf)) → total_fault u m rows ≡ None → m.rows + length rows ≤ 2 ^ 40
 countable u m rows = go (leb (m.rows + length rows) (2 ^ 40)) refl

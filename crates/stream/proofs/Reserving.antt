@@ -20,10 +20,6 @@ module _ {S R : Type 0} (u : Setup S) (w : Reservation R) (m : Model S) (r : R) 
     (r', subst (λ (x : Bool). w.asks r (need u (count m)) x r') e asked, refl),
   )
 
-  -- memory is refused, and the early emission comes to this
-  abbrev Early : Outcome S → Bool → Type 0
-  Early o h = reserved u m false h ≡ o
-
   early : (h : Bool) (b : Bool) → (u.settings.partial && ltb 1 (count m)) ≡ b
       → reserved u m false h ≡ cond b (emits_if u (oom_emit_to m.held.order (wanted u.settings.batch_size (count m))) m h) (no_memory u m)
   early h b e = ap (λ (x : Bool). cond x (emits_if u (oom_emit_to m.held.order (wanted u.settings.batch_size (count m))) m h) (no_memory u m)) e

@@ -135,7 +135,7 @@ impl<G: GroupValues, A: GroupsAccumulator, R: MemoryReservation> GroupedHashAggr
         ensures plan { result.stream.plan ≡ self.plan }
     {
         self.closing = true;
-        let _ = self.handle(InputEvent::end());
+        let _ = self.handle(InputEvent::End);
         ClosingStream { stream: self }
     }
 

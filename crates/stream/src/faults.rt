@@ -26,7 +26,7 @@ pub enum OfferFault {
 }
 
 impl OfferFault {
-    /// The refusal's number.
+    /// The refusal's number, by which documents and programs name it.
     pub fn number(self) -> u32
         ensures { result ≡ (offer_refusal self).number }
     {
@@ -58,7 +58,7 @@ pub enum TakeFault {
 }
 
 impl TakeFault {
-    /// The refusal's number.
+    /// The refusal's number, by which documents and programs name it.
     pub fn number(self) -> u32
         ensures { result ≡ (take_refusal self).number }
     {

@@ -10,7 +10,6 @@ ghost use Rattle.model.specs.Machine.{emits, count, says, with_probe};
 ghost use Rattle.model.specs.Steps.{accepted, reserved, probed, settled, ended, grouped, bypassed};
 ghost use Rattle.cells.specs.Views.{view_rows};
 ghost use Rattle.groups.specs.Plans.{is_partial};
-ghost use Rattle.stream.specs.declared.state.InputEvent.TheVariants.{End};
 ghost use Rattle.stream.specs.Refusals.{offer_answer, UnlessNoMemory};
 ghost use Rattle.stream.specs.Streams.{model_of, setup_in, Countable, CountableIn, handled, Does, Goes};
 
@@ -95,10 +94,9 @@ impl<G: GroupValues, A: GroupsAccumulator, R: MemoryReservation> GroupedHashAggr
     pub(crate) fn should_skip_aggregation(&self) -> bool
         ensures { result ≡ says (model_of self.now).probe }
     {
-        match &self.skip_aggregation_probe {
-            Some(probe) => probe.should_skip(),
-            None => false,
-        }
+        self.skip_aggregation_probe
+            .as_ref()
+            .is_some_and(|probe| probe.should_skip())
     }
 
     /// The probe is told; where it says skip, all groups go out, and otherwise memory is asked for.
@@ -182,13 +180,5 @@ impl<G: GroupValues, A: GroupsAccumulator, R: MemoryReservation> GroupedHashAggr
             (ExecutionState::ProducingOutput { .. }, InputEvent::End)
             | (ExecutionState::Done, InputEvent::End) => Ok(()),
         }
-    }
-}
-
-impl<'v, 'f> InputEvent<'v, 'f> {
-    pub(crate) fn end() -> InputEvent<'v, 'f>
-        ensures { result ≡ End }
-    {
-        InputEvent::End
     }
 }

@@ -27,6 +27,7 @@ pub(crate) enum ExecutionState {
 }
 
 /// What the input brings.
+// An Option would say the same, but not that none means the input's end.
 #[derive(Drop)]
 pub(crate) enum InputEvent<'v, 'f> {
     Batch(Batch<'v, 'f>),

@@ -14,6 +14,6 @@ returns g c =
     let m = model_of s in
     record {
       finishes = makes u w (lawful_asks _ _ _ g.met.R.MemoryReservation.lawful) m s.reservation finishing closed [] _ _
-          (finish-comes u w m c.end.result c.end.ensures s.reservation _ _ (offer_answer c.handle.result) c.handle.ensures.does.comes);
+          (finish-comes u w m s.reservation _ _ (offer_answer c.handle.result) c.handle.ensures.does.comes);
       plan = c.handle.ensures.does.plan;
     }
