@@ -5,7 +5,6 @@ use Rattle.cells.specs.Rows.{CellOf}
 use Rattle.accumulators.specs.declared.groups_accumulator.GroupsAccumulator as GroupsAccumulator
 use Rattle.group_values.specs.declared.group_values.GroupValues as GroupValues
 use Rattle.memory.specs.declared.reservation.MemoryReservation as MemoryReservation
-use Rattle.groups.specs.declared.settings.Settings.{Settings}
 use Rattle.groups.specs.Plans.{settings_of}
 use Rattle.groups.specs.Settings.{given_settings, given_setup, settings_refusal}
 use Rattle.model.specs.Setups.{Setup, out_width}
@@ -16,8 +15,9 @@ use Rattle.model.specs.Steps.{Request}
 use Rattle.model.specs.Runs.{Reservation}
 use Rattle.runs.specs.Noted.{Noted, event_of, LeadsNoting}
 use Rattle.model.specs.Law.{Law}
+use Rattle.stream.specs.declared.state.StreamParts.{StreamParts}
 use Rattle.stream.specs.declared.state.StreamRefused.{StreamRefused}
-use Rattle.stream.specs.Making.{are_new, Returned}
+use Rattle.stream.specs.Making.{are_new}
 use Rattle.stream.specs.Streams.{StreamOf, model_of, setup_in, memory_of}
 use Rattle.stream.specs.Calls.{Makes}
 use Rattle.runs.specs.declared.script.Reply.{Reply}
@@ -82,16 +82,15 @@ module _ {G A S R : Type 0} {g : GroupValues.Ghosts G} {a : GroupsAccumulator.Gh
   Staged (Closing s) None = ⊥
   Staged (Closing s) (Some x) = Unit {0}
 
-  -- a run of the whole script on a stream of what was passed, where every question is answered yes; else what was passed
-  -- comes back, with the first question that is not, or where there is no memory, and the script is as it was
-  abbrev pub Runs : Settings → G → A → R → Script → Result (Run G A R S g a r) (StreamRefused G A R) → Script → Type 0
-  Runs settings table accumulator reservation script (Ok run) script' =
+  -- a run of the whole script on a stream of the parts, where every question is answered yes; else the parts come back, with the first question that is not, or where there is no memory, and the script is as it was
+  abbrev pub Runs : StreamParts G A R → Script → Result (Run G A R S g a r) (StreamRefused G A R) → Script → Type 0
+  Runs parts script (Ok run) script' =
       let s = stream_of run.stage in
-      (settings_fault (given_setup a.aggregation g.admitted settings) (are_new g a r table accumulator reservation) ≡ None)
-      × (settings_of s.plan ≡ given_settings settings)
+      (settings_fault (given_setup a.aggregation g.admitted parts.settings) (are_new g a r parts) ≡ None)
+      × (settings_of s.plan ≡ given_settings parts.settings)
       × Staged run.stage script.closing
       × Ran (setup_in s) (memory_of s) script script' (vec_items run.replies) (model_of s) s.reservation
-  Runs settings table accumulator reservation script (Err back) script' =
-      ((e : Refusal) → settings_refusal back.fault ≡ Some e → settings_fault (given_setup a.aggregation g.admitted settings) (are_new g a r table accumulator reservation) ≡ Some e)
-      × Returned settings table accumulator reservation back
+  Runs parts script (Err back) script' =
+      ((e : Refusal) → settings_refusal back.fault ≡ Some e → settings_fault (given_setup a.aggregation g.admitted parts.settings) (are_new g a r parts) ≡ Some e)
+      × (back.parts ≡ parts)
       × (script' ≡ script)

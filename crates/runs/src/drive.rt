@@ -9,10 +9,10 @@ ghost use Rattle.runs.specs.Ran.{LeadsTo, CalledOn, WalkedOn, Runs};
 use crate::script::{Answer, Buffers, Call, Reply, Run, Script, Stage};
 use accumulators::GroupsAccumulator;
 use group_values::GroupValues;
-use groups::{Settings, SettingsFault};
+use groups::SettingsFault;
 use memory::MemoryReservation;
 use std::alloc::Global;
-use stream::{ClosingStream, GroupedHashAggregateStream, StreamRefused};
+use stream::{ClosingStream, GroupedHashAggregateStream, StreamParts, StreamRefused};
 
 /// An answer, with what the reservation holds then.
 fn reply<R: MemoryReservation>(answer: Answer, reservation: &R) -> Reply
@@ -88,6 +88,7 @@ fn read<G: GroupValues, A: GroupsAccumulator, R: MemoryReservation>(
 }
 
 /// Takes rows of a stream whose input is finished into the slices of a call.
+// The two streams share no type; a trait for one call on either would be longer than the second function.
 fn drain_into<G: GroupValues, A: GroupsAccumulator, R: MemoryReservation>(
     stream: &mut ClosingStream<G, A, R>,
     out: &mut Buffers,
@@ -136,33 +137,19 @@ impl Script {
 /// Makes a stream, and then every call of the script in its order, and tells what came of each.
 ///
 /// The slices of a take hold the rows that it handed out. Where settings or parts are refused, or there is no memory, no
-/// call is made, and what was passed comes back.
+/// call is made, and the parts come back.
 pub fn run<G: GroupValues, A: GroupsAccumulator, R: MemoryReservation>(
     heap: Global,
-    settings: Settings,
-    group_values: G,
-    accumulator: A,
-    reservation: R,
+    parts: StreamParts<G, A, R>,
     script: &mut Script,
 ) -> Result<Run<G, A, R>, StreamRefused<G, A, R>>
-    ensures { Runs settings group_values accumulator reservation script.old result script.new }
+    ensures { Runs parts script.old result script.new }
 {
     let Ok(mut replies) = Vec::with_capacity(heap, script.len()) else {
-        return Err(StreamRefused {
-            settings,
-            group_values,
-            accumulator,
-            reservation,
-            fault: SettingsFault::Memory,
-        });
+        let fault = SettingsFault::Memory;
+        return Err(StreamRefused { parts, fault });
     };
-    let mut stream = GroupedHashAggregateStream::try_new(
-        heap,
-        settings,
-        group_values,
-        accumulator,
-        reservation,
-    )?;
+    let mut stream = GroupedHashAggregateStream::try_new(heap, parts)?;
     read(&mut stream, &mut script.reading, &mut replies);
     let Some(takes) = &mut script.closing else {
         return Ok(Run {

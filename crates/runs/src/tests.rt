@@ -10,6 +10,7 @@ use memory::RecordedReservation;
 use order::InputOrderMode;
 use std::alloc::{AllocError, Global};
 use std::test::Fail;
+use stream::StreamParts;
 
 /// The rows of a batch of two columns, all cells present.
 fn offer(heap: Global, rows: &[(i64, i64)]) -> Result<Call, AllocError> {
@@ -75,8 +76,13 @@ fn outcome(
     let least = KindGroupsAccumulator::new(heap)?;
     let counts = PairGroupsAccumulator::new(count, least);
     let keys = GroupValuesRows::new(heap)?;
-    let memory = RecordedReservation::new(u64::MAX - 1);
-    match run(heap, settings, keys, counts, memory, script) {
+    let parts = StreamParts {
+        settings,
+        group_values: keys,
+        accumulator: counts,
+        reservation: RecordedReservation::new(u64::MAX - 1),
+    };
+    match run(heap, parts, script) {
         Ok(done) => Ok(Some(done)),
         Err(_) => Ok(None),
     }

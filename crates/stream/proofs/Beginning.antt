@@ -13,6 +13,7 @@ use Rattle.model.specs.Setups.{Settings, Setup, first_probe}
 use Rattle.model.specs.Questions.{settings_fault}
 use Rattle.model.specs.Machine.{groups, Model, grouping, start}
 use Rattle.model.specs.Law.{Sensible}
+use Rattle.stream.specs.declared.state.StreamParts.{StreamParts}
 use Rattle.stream.specs.Making.{are_new}
 
 no_items : {X : Type 0} (xs : List X) → eqb (length xs) 0 ≡ true → xs ≡ []
@@ -32,25 +33,25 @@ new_model {S} u keys states o p no_keys no_states is probe =
     made ks ss x y = record { held = groups ks ss x; probe = y; phase = grouping; ended = false; closing = false; rows = 0 }
 
 -- what is new holds nothing, and was refused nothing
-module _ {G A S R : Type 0} (g : GroupValues.Ghosts G) (a : GroupsAccumulator.Ghosts A S) (r : MemoryReservation.Ghosts R) (table : G) (accumulator : A) (reservation : R)
-    (new : are_new g a r table accumulator reservation ≡ true) where
-  pub no_keys : g.keys table ≡ []
-  no_keys = no_items (g.keys table) (and_parts (eqb (length (g.keys table)) 0) _ new).0
+module _ {G A S R : Type 0} (g : GroupValues.Ghosts G) (a : GroupsAccumulator.Ghosts A S) (r : MemoryReservation.Ghosts R) (parts : StreamParts G A R)
+    (new : are_new g a r parts ≡ true) where
+  pub no_keys : g.keys parts.group_values ≡ []
+  no_keys = no_items (g.keys parts.group_values) (and_parts (eqb (length (g.keys parts.group_values)) 0) _ new).0
 
-  others : (eqb (length (a.states accumulator)) 0 && (eqb (r.bytes reservation) 0 && r.granted reservation)) ≡ true
-  others = (and_parts (eqb (length (g.keys table)) 0) _ new).1
+  others : (eqb (length (a.states parts.accumulator)) 0 && (eqb (r.bytes parts.reservation) 0 && r.granted parts.reservation)) ≡ true
+  others = (and_parts (eqb (length (g.keys parts.group_values)) 0) _ new).1
 
-  pub no_states : a.states accumulator ≡ []
-  no_states = no_items (a.states accumulator) (and_parts (eqb (length (a.states accumulator)) 0) _ others).0
+  pub no_states : a.states parts.accumulator ≡ []
+  no_states = no_items (a.states parts.accumulator) (and_parts (eqb (length (a.states parts.accumulator)) 0) _ others).0
 
-  unused : (eqb (r.bytes reservation) 0 && r.granted reservation) ≡ true
-  unused = (and_parts (eqb (length (a.states accumulator)) 0) _ others).1
+  unused : (eqb (r.bytes parts.reservation) 0 && r.granted parts.reservation) ≡ true
+  unused = (and_parts (eqb (length (a.states parts.accumulator)) 0) _ others).1
 
-  pub no_bytes : r.bytes reservation ≡ 0
-  no_bytes = eqb-true (r.bytes reservation) 0 (and_parts (eqb (r.bytes reservation) 0) (r.granted reservation) unused).0
+  pub no_bytes : r.bytes parts.reservation ≡ 0
+  no_bytes = eqb-true (r.bytes parts.reservation) 0 (and_parts (eqb (r.bytes parts.reservation) 0) (r.granted parts.reservation) unused).0
 
-  pub unrefused : r.granted reservation ≡ true
-  unrefused = (and_parts (eqb (r.bytes reservation) 0) (r.granted reservation) unused).1
+  pub unrefused : r.granted parts.reservation ≡ true
+  unrefused = (and_parts (eqb (r.bytes parts.reservation) 0) (r.granted parts.reservation) unused).1
 
 -- settings that passed their questions make a sensible setup of a plan that stands for them
 pub sensible-plan : {S : Type 0} (a : Aggregation S) (admitted : List CellOf → Bool) (st given : Settings) → st ≡ given → Lawful a

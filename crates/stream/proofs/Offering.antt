@@ -1,11 +1,10 @@
 -- The questions before an offer, and the run that a call goes on with.
-use Rattle.std.proofs.Common.{◌≡◌, ℕ, ◌+◌, ◌/◌, ◌^◌, ◌≤◌, Bool, true, false, cond, leb, List, [], ◌∷◌, length, ℤ, Some, None, Ok, Err, Option, Result, sym, refl, ap, ◌∙◌, arith}
-use Rattle.std.proofs.lemmas.Bool.{leb-true, and_parts}
-use Rattle.cells.specs.Rows.{CellOf, cells_of}
+use Rattle.std.proofs.Common.{◌≡◌, ℕ, ◌+◌, ◌^◌, ◌≤◌, Bool, true, false, cond, leb, List, [], ◌∷◌, length, ℤ, Some, None, Ok, Err, Option, Result, sym, refl, ap, ◌∙◌}
+use Rattle.std.proofs.lemmas.Bool.{leb-true}
+use Rattle.cells.specs.Rows.{CellOf}
 use Rattle.cells.specs.Refusals.{Refusal, refusal}
-use Rattle.cells.specs.Faults.{sized, flag_fault, batch_fault}
+use Rattle.cells.specs.Faults.{batch_fault}
 use Rattle.cells.specs.Views.{rows_in}
-use Rattle.cells.proofs.Rows.{length-rows}
 use Rattle.memory.specs.Resizes.{Resized}
 use Rattle.model.specs.Setups.{Setup}
 use Rattle.model.specs.Machine.{Model}

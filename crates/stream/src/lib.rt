@@ -10,4 +10,4 @@ mod making;
 mod state;
 
 pub use faults::{OfferFault, TakeFault};
-pub use state::{ClosingStream, GroupedHashAggregateStream, StreamRefused};
+pub use state::{ClosingStream, GroupedHashAggregateStream, StreamParts, StreamRefused};

@@ -8,9 +8,9 @@ ghost use Rattle.order.specs.Tracked.{mode_of};
 ghost use Rattle.model.specs.Questions.{settings_fault};
 ghost use Rattle.groups.specs.Settings.{given_setup};
 ghost use Rattle.groups.specs.Held.{held_of};
-ghost use Rattle.stream.specs.Making.{are_new, Founded, Returned};
+ghost use Rattle.stream.specs.Making.{are_new, parts_in, Founded};
 
-use crate::state::{ExecutionState, GroupedHashAggregateStream, StreamRefused};
+use crate::state::{ExecutionState, GroupedHashAggregateStream, StreamParts, StreamRefused};
 use accumulators::GroupsAccumulator;
 use group_values::GroupValues;
 use groups::{HeldGroups, Plan, Settings, SettingsFault, first_fault};
@@ -18,18 +18,16 @@ use memory::MemoryReservation;
 use output::Waiting;
 use std::alloc::Global;
 
-/// Whether nothing was done yet with the parts of a stream.
-fn are_new<G: GroupValues, A: GroupsAccumulator, R: MemoryReservation>(
-    group_values: &G,
-    accumulator: &A,
-    reservation: &R,
-) -> bool
-    ensures { result ≡ are_new G.GroupValues A.GroupsAccumulator R.MemoryReservation group_values.now accumulator.now reservation.now }
-{
-    group_values.is_empty()
-        && accumulator.num_groups() == 0
-        && reservation.size() == 0
-        && reservation.last_answer()
+impl<G: GroupValues, A: GroupsAccumulator, R: MemoryReservation> StreamParts<G, A, R> {
+    /// Whether nothing was done yet with the parts.
+    fn are_new(&self) -> bool
+        ensures { result ≡ are_new G.GroupValues A.GroupsAccumulator R.MemoryReservation self.now }
+    {
+        self.group_values.is_empty()
+            && self.accumulator.num_groups() == 0
+            && self.reservation.size() == 0
+            && self.reservation.last_answer()
+    }
 }
 
 impl<G: GroupValues, A: GroupsAccumulator, R: MemoryReservation> GroupedHashAggregateStream<
@@ -37,34 +35,33 @@ impl<G: GroupValues, A: GroupsAccumulator, R: MemoryReservation> GroupedHashAggr
     A,
     R,
 > {
-    /// A stream over new parts; all that was passed comes back with the first question that is answered no, or where
-    /// there is no memory. No other call allocates.
+    /// A stream of new parts; they come back with the first question that is answered no, or where there is no memory. No
+    /// other call allocates.
     pub fn try_new(
         heap: Global,
-        settings: Settings,
-        group_values: G,
-        accumulator: A,
-        reservation: R,
+        parts: StreamParts<G, A, R>,
     ) -> Result<GroupedHashAggregateStream<G, A, R>, StreamRefused<G, A, R>>
-        ensures { Founded settings group_values accumulator reservation result }
+        ensures { Founded parts result }
     {
-        let parts_are_new = are_new(&group_values, &accumulator, &reservation);
-        if let Some(fault) = first_fault::<G, A>(&settings, &group_values, parts_are_new) {
-            return Err(StreamRefused {
-                settings,
-                group_values,
-                accumulator,
-                reservation,
-                fault,
-            });
+        let new = parts.are_new();
+        if let Some(fault) = first_fault::<G, A>(&parts.settings, &parts.group_values, new) {
+            return Err(StreamRefused { parts, fault });
         }
+        let StreamParts {
+            settings,
+            group_values,
+            accumulator,
+            reservation,
+        } = parts;
         match HeldGroups::new(heap, group_values, accumulator, &settings.order) {
-            Ok(held) => Self::over(heap, settings, held, reservation, parts_are_new),
+            Ok(held) => Self::over(heap, settings, held, reservation, new),
             Err(back) => Err(StreamRefused {
-                settings,
-                group_values: back.group_values,
-                accumulator: back.accumulator,
-                reservation,
+                parts: StreamParts {
+                    settings,
+                    group_values: back.group_values,
+                    accumulator: back.accumulator,
+                    reservation,
+                },
                 fault: SettingsFault::Memory,
             }),
         }
@@ -79,9 +76,9 @@ impl<G: GroupValues, A: GroupsAccumulator, R: MemoryReservation> GroupedHashAggr
         parts_are_new: bool,
     ) -> Result<GroupedHashAggregateStream<G, A, R>, StreamRefused<G, A, R>>
         requires asked { settings_fault (given_setup A.aggregation G.admitted settings) parts_are_new ≡ None }
-        requires new { parts_are_new ≡ are_new G.GroupValues A.GroupsAccumulator R.MemoryReservation held.group_values held.accumulator reservation }
+        requires new { parts_are_new ≡ are_new G.GroupValues A.GroupsAccumulator R.MemoryReservation (parts_in settings held reservation) }
         requires order { (held_of held).order ≡ start (mode_of settings.order) }
-        ensures { Founded settings held.group_values held.accumulator reservation result }
+        ensures { Founded (parts_in settings held reservation) result }
     {
         let Ok(waiting) = Waiting::new(heap) else {
             return Err(Self::back(settings, held, reservation, SettingsFault::Memory));
@@ -109,15 +106,17 @@ impl<G: GroupValues, A: GroupsAccumulator, R: MemoryReservation> GroupedHashAggr
         reservation: R,
         fault: SettingsFault,
     ) -> StreamRefused<G, A, R>
-        ensures back { Returned settings held.group_values held.accumulator reservation result }
+        ensures parts { result.parts ≡ parts_in settings held reservation }
         ensures fault { result.fault ≡ fault }
     {
         let (group_values, accumulator) = held.into_parts();
         StreamRefused {
-            settings,
-            group_values,
-            accumulator,
-            reservation,
+            parts: StreamParts {
+                settings,
+                group_values,
+                accumulator,
+                reservation,
+            },
             fault,
         }
     }

@@ -65,13 +65,19 @@ pub struct ClosingStream<G: GroupValues, A: GroupsAccumulator, R: MemoryReservat
     pub(crate) stream: GroupedHashAggregateStream<G, A, R>,
 }
 
-/// What was passed for a stream that could not be made, as it was.
+/// What a stream is made of.
 #[derive(Drop)]
-pub struct StreamRefused<G, A, R> {
+pub struct StreamParts<G, A, R> {
     pub settings: Settings,
     pub group_values: G,
     pub accumulator: A,
     pub reservation: R,
+}
+
+/// The parts of a stream that could not be made, as they were passed.
+#[derive(Drop)]
+pub struct StreamRefused<G, A, R> {
+    pub parts: StreamParts<G, A, R>,
     /// What was wrong.
     pub fault: SettingsFault,
 }

@@ -49,7 +49,7 @@ returns-in_default-closing g c =
     subst (λ (ts : List (steps.Answer × ℕ × Bool)). Walked (setup begun.plan) w [] (map request_of xs) (map call_slices xs) (map call_slices xs') ts (map tells rs) m s.reservation) (ap (map tells) c.in-Ok.ensures.items)
     (subst (λ (zs : List Call). Walked (setup begun.plan) w [] (map request_of zs) (map call_slices zs) (map call_slices xs') (map tells (vec_items c.in-Ok.replies)) (map tells rs) m s.reservation) same_xs
     (c.read.ensures.walked []
-    (new_leads (setup begun.plan) w model begun.reservation c.args.reservation begins.model begins.reservation_is begins.empty begins.granted)
+    (new_leads (setup begun.plan) w model begun.reservation c.args.parts.reservation begins.model begins.reservation_is begins.empty begins.granted)
     (ap (λ (x : Model g.row.A-State.Denot). x.closing) begins.model))) in
     let kept : map request_of xs' ≡ map request_of xs = c.read.ensures.requests ∙ ap (map request_of) same_xs in
     let script' : Script = record { reading = with_items script.reading xs'; closing = script.closing } in
@@ -124,7 +124,7 @@ returns g c =
     subst (λ (ts : List (steps.Answer × ℕ × Bool)). Walked (setup begun.plan) w [] (map request_of xs) (map call_slices xs) (map call_slices xs') ts (map tells rs) m s.reservation) (ap (map tells) c.in-Ok.ensures.items)
     (subst (λ (zs : List Call). Walked (setup begun.plan) w [] (map request_of zs) (map call_slices zs) (map call_slices xs') (map tells (vec_items c.in-Ok.replies)) (map tells rs) m s.reservation) same_xs
     (c.read.ensures.walked []
-    (new_leads (setup begun.plan) w model begun.reservation c.args.reservation begins.model begins.reservation_is begins.empty begins.granted)
+    (new_leads (setup begun.plan) w model begun.reservation c.args.parts.reservation begins.model begins.reservation_is begins.empty begins.granted)
     (ap (λ (x : Model g.row.A-State.Denot). x.closing) begins.model))) in
     let kept : map request_of xs' ≡ map request_of xs = c.read.ensures.requests ∙ ap (map request_of) same_xs in
     let takes = c.in-Some.takes in
