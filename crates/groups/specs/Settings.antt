@@ -1,5 +1,5 @@
 -- What the settings that a caller passes stand for, and the refusals. Assumes nothing.
-use Rattle.std.specs.Prelude.{◌≤◌, Bool, List, [], length, Some, None, vec_items, Option}
+use Rattle.std.specs.Prelude.{◌≤◌, Bool, List, [], length, Some, None, Ok, Err, vec_items, Option, Result}
 use Rattle.cells.specs.Refusals.{Refusal, refusal}
 use Rattle.cells.specs.Rows.{CellOf}
 use Rattle.group_by.specs.Groupings.{GroupBy, group_by}
@@ -39,6 +39,11 @@ settings_refusal GroupingSets = Some (refusal 4 [])
 settings_refusal Order = Some (refusal 5 [])
 settings_refusal Ratio = Some (refusal 6 [])
 settings_refusal Memory = None
+
+-- the refusal of an answer, if it is one
+abbrev pub refusal_of : Result Unit SettingsFault → Option Refusal
+refusal_of (Ok _) = None
+refusal_of (Err e) = settings_refusal e
 
 -- few enough key columns and sets, with a mark for each column
 pub record Sized (gb : GroupBy) : Type 0 where

@@ -15,10 +15,7 @@ impl Plan {
     pub fn is_partial(&self) -> bool
         ensures { result ≡ (settings_of self.now).partial }
     {
-        match self.mode {
-            AggregateMode::Partial => true,
-            AggregateMode::Single => false,
-        }
+        self.mode == AggregateMode::Partial
     }
 
     /// How many cells a row of the input has.
@@ -43,10 +40,7 @@ impl Plan {
     pub fn is_limited(&self, held: usize) -> bool
         ensures { result ≡ limited (settings_of self.now).soft_limit held }
     {
-        match self.soft_limit {
-            Some(limit) => limit <= held,
-            None => false,
-        }
+        self.soft_limit.is_some_and(|limit| limit <= held)
     }
 
     /// How many of the rows that wait one take hands out.
@@ -64,31 +58,23 @@ impl Plan {
     fn is_linear(&self) -> bool
         ensures { result ≡ is_linear (settings_of self.now).order }
     {
-        match &self.order {
-            InputOrderMode::Linear => true,
-            InputOrderMode::Sorted => false,
-            InputOrderMode::PartiallySorted(_) => false,
-        }
+        matches!(self.order, InputOrderMode::Linear)
     }
 
     /// Whether rows may be passed on ungrouped.
     fn probes(&self) -> bool
         ensures { result ≡ probes (settings_of self.now) }
     {
-        if !self.is_partial() || !self.is_linear() {
-            return false;
-        }
-        !self.keys.group_by().has_grouping_set && self.probe_ratio < 1.0
+        self.is_partial()
+            && self.is_linear()
+            && !self.keys.group_by().has_grouping_set
+            && self.probe_ratio < 1.0
     }
 
     /// The probe of a new stream, if it has one.
     pub fn new_probe(&self) -> Option<SkipAggregationProbe>
         ensures { option_map probe result ≡ first_probe (settings_of self.now) }
     {
-        if self.probes() {
-            Some(SkipAggregationProbe::new(self.probe_rows, self.probe_ratio))
-        } else {
-            None
-        }
+        self.probes().then(|| SkipAggregationProbe::new(self.probe_rows, self.probe_ratio))
     }
 }

@@ -1,7 +1,6 @@
 //! The calls of a plan.
 
 ghost use Rattle.std.specs.Prelude.{◌≡◌, [], length, slice_index_or};
-ghost use Rattle.cells.specs.Keys.{key_cells};
 ghost use Rattle.cells.specs.Views.{view_rows};
 ghost use Rattle.group_by.specs.Groupings.{masked_key};
 ghost use Rattle.model.specs.Questions.{all_masked};
@@ -22,7 +21,7 @@ impl Plan {
 
     /// The key of a row for a set.
     pub fn row_key(&self, batch: &Batch<'_, '_>, row: usize, set: usize) -> Key
-        ensures { key_cells result ≡ row_key (settings_of self.now) set (slice_index_or (view_rows batch.now) row []) }
+        ensures { result ≡ row_key (settings_of self.now) set (slice_index_or (view_rows batch.now) row []) }
     {
         self.keys.evaluate_group_by(batch, row, set)
     }
@@ -31,12 +30,8 @@ impl Plan {
     pub fn key_width(&self) -> usize
         ensures { result ≡ key_width (settings_of self.now) }
     {
-        let columns = self.keys.group_by().columns.len();
-        if self.keys.group_by().has_grouping_set {
-            columns + 1
-        } else {
-            columns
-        }
+        let group_by = self.keys.group_by();
+        group_by.columns.len() + usize::from(group_by.has_grouping_set)
     }
 
     /// Whether a set is a grouping set that masks every column; past the last there is none.
@@ -44,15 +39,16 @@ impl Plan {
         ensures { result ≡ is_grand (settings_of self.now) set }
     {
         let group_by = self.keys.group_by();
-        if !group_by.has_grouping_set || set >= group_by.groups.len() {
-            return false;
-        }
-        all_masked(&group_by.groups[set])
+        group_by.has_grouping_set
+            && group_by
+                .groups
+                .get(set)
+                .is_some_and(|marks| all_masked(marks))
     }
 
     /// The key for a set of a row that is masked whole.
     pub fn masked_key(&self, set: usize) -> Key
-        ensures { key_cells result ≡ masked_key (settings_of self.now).group_by set }
+        ensures { result ≡ masked_key (settings_of self.now).group_by set }
     {
         self.keys.masked_key(set)
     }

@@ -1,7 +1,0 @@
-use Rattle.std.proofs.Common.{◌≡◌, take, replicate, None}
-use Rattle.cells.specs.Keys.{key_cells}
-use Rattle.groups.proofs.grouping.masked_key.Given as goal
-
--- As many absent cells as there were turns.
-abbrev pub invariant-loop : goal.invariant-loop
-invariant-loop l = key_cells l.key ≡ take 7 (replicate l.counter None)
