@@ -19,5 +19,5 @@ mod questions;
 mod settings;
 
 pub use held::{HeldGroups, HeldRefused};
-pub use plan::{AggregateMode, Plan};
-pub use settings::{PlanRefused, Settings, SettingsFault};
+pub use plan::Plan;
+pub use settings::{AggregateMode, PlanRefused, Settings, SettingsFault};

@@ -7,7 +7,8 @@ ghost use Rattle.model.specs.Setups.{is_linear, probes, first_probe};
 ghost use Rattle.model.specs.Steps.{wanted, limited, piece};
 ghost use Rattle.groups.specs.Plans.{settings_of};
 
-use crate::plan::{AggregateMode, Plan};
+use crate::plan::Plan;
+use crate::settings::AggregateMode;
 use order::{InputOrderMode, SkipAggregationProbe};
 
 impl Plan {
@@ -15,22 +16,22 @@ impl Plan {
     pub fn is_partial(&self) -> bool
         ensures { result ≡ (settings_of self.now).partial }
     {
-        self.mode == AggregateMode::Partial
+        self.settings.mode == AggregateMode::Partial
     }
 
     /// How many cells a row of the input has.
     pub fn columns(&self) -> usize
         ensures { result ≡ (settings_of self.now).columns }
     {
-        self.columns
+        self.settings.columns
     }
 
     /// Of the held groups, those wanted where memory is refused: whole batches, or all if there is less than one.
     pub fn wanted(&self, held: usize) -> usize
         ensures { result ≡ wanted (settings_of self.now).batch_size held }
     {
-        if held >= self.batch_size {
-            held / self.batch_size * self.batch_size
+        if held >= self.settings.batch_size {
+            held / self.settings.batch_size * self.settings.batch_size
         } else {
             held
         }
@@ -40,7 +41,7 @@ impl Plan {
     pub fn is_limited(&self, held: usize) -> bool
         ensures { result ≡ limited (settings_of self.now).soft_limit held }
     {
-        self.soft_limit.is_some_and(|limit| limit <= held)
+        self.settings.soft_limit.is_some_and(|limit| limit <= held)
     }
 
     /// How many of the rows that wait one take hands out.
@@ -50,7 +51,7 @@ impl Plan {
         if whole {
             waiting
         } else {
-            self.batch_size.min(waiting)
+            self.settings.batch_size.min(waiting)
         }
     }
 
@@ -58,7 +59,7 @@ impl Plan {
     fn is_linear(&self) -> bool
         ensures { result ≡ is_linear (settings_of self.now).order }
     {
-        matches!(self.order, InputOrderMode::Linear)
+        matches!(self.settings.order, InputOrderMode::Linear)
     }
 
     /// Whether rows may be passed on ungrouped.
@@ -67,14 +68,17 @@ impl Plan {
     {
         self.is_partial()
             && self.is_linear()
-            && !self.keys.group_by().has_grouping_set
-            && self.probe_ratio < 1.0
+            && !self.group_by().has_grouping_set
+            && self.settings.probe_ratio < 1.0
     }
 
     /// The probe of a new stream, if it has one.
     pub fn new_probe(&self) -> Option<SkipAggregationProbe>
         ensures { option_map probe result ≡ first_probe (settings_of self.now) }
     {
-        self.probes().then(|| SkipAggregationProbe::new(self.probe_rows, self.probe_ratio))
+        self.probes().then(|| SkipAggregationProbe::new(
+            self.settings.probe_rows,
+            self.settings.probe_ratio,
+        ))
     }
 }

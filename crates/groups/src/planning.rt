@@ -24,15 +24,17 @@ impl Plan {
         }
         match GroupByKeys::try_new(heap, settings.group_by) {
             Ok(keys) => Ok(Plan {
-                mode: settings.mode,
-                batch_size: settings.batch_size,
-                columns: settings.columns,
-                keys,
-                exprs: settings.exprs,
-                order: settings.order,
-                soft_limit: settings.soft_limit,
-                probe_rows: settings.probe_rows,
-                probe_ratio: settings.probe_ratio,
+                settings: Settings {
+                    mode: settings.mode,
+                    batch_size: settings.batch_size,
+                    columns: settings.columns,
+                    group_by: keys,
+                    exprs: settings.exprs,
+                    order: settings.order,
+                    soft_limit: settings.soft_limit,
+                    probe_rows: settings.probe_rows,
+                    probe_ratio: settings.probe_ratio,
+                },
             }),
             // Few sets with few marks have ids, so that only memory can be wanting.
             Err(refused) => {

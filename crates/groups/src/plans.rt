@@ -10,27 +10,35 @@ ghost use Rattle.groups.specs.Plans.{settings_of, is_grand};
 use crate::plan::Plan;
 use crate::questions::all_masked;
 use cells::{Batch, Key};
+use group_by::PhysicalGroupBy;
 
 impl Plan {
+    /// What is grouped by.
+    pub(crate) fn group_by(&self) -> &PhysicalGroupBy
+        ensures { result.now ≡ self.now.settings.group_by.group_by }
+    {
+        self.settings.group_by.group_by()
+    }
+
     /// How many grouping sets there are.
     pub fn num_sets(&self) -> usize
         ensures { result ≡ num_sets (settings_of self.now) }
     {
-        self.keys.num_sets()
+        self.settings.group_by.num_sets()
     }
 
     /// The key of a row for a set.
     pub fn row_key(&self, batch: &Batch<'_, '_>, row: usize, set: usize) -> Key
         ensures { result ≡ row_key (settings_of self.now) set (slice_index_or (view_rows batch.now) row []) }
     {
-        self.keys.evaluate_group_by(batch, row, set)
+        self.settings.group_by.evaluate_group_by(batch, row, set)
     }
 
     /// How many cells a key has.
     pub fn key_width(&self) -> usize
         ensures { result ≡ key_width (settings_of self.now) }
     {
-        let group_by = self.keys.group_by();
+        let group_by = self.group_by();
         group_by.columns.len() + usize::from(group_by.has_grouping_set)
     }
 
@@ -38,7 +46,7 @@ impl Plan {
     pub fn is_grand(&self, set: usize) -> bool
         ensures { result ≡ is_grand (settings_of self.now) set }
     {
-        let group_by = self.keys.group_by();
+        let group_by = self.group_by();
         group_by.has_grouping_set
             && group_by
                 .groups
@@ -50,6 +58,6 @@ impl Plan {
     pub fn masked_key(&self, set: usize) -> Key
         ensures { result ≡ masked_key (settings_of self.now).group_by set }
     {
-        self.keys.masked_key(set)
+        self.settings.group_by.masked_key(set)
     }
 }

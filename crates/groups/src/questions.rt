@@ -70,7 +70,6 @@ fn expr_in(expr: AggregateExpr, columns: usize) -> bool
     expr.argument < columns && expr.filter.is_none_or(|column| column < columns)
 }
 
-#[tactic(auto, using(crate::proofs::Positions::distinct_is))]
 fn positions_ok(positions: &[usize], columns: usize) -> bool
     ensures { result ≡ (between 1 columns (length positions.now) && (distinct positions.now && list_all (λ p. nat_lt p columns) positions.now)) }
 {

@@ -6,8 +6,8 @@ use Rattle.group_by.proofs.Ordinals.{marks_at}
 use Rattle.model.specs.Questions.{all_masked}
 use Rattle.groups.specs.Settings.{given_settings}
 use Rattle.groups.proofs.Marks.{kept_more, admitted_more, refused_here}
-use Rattle.groups.proofs.settings.Settings.masks_ok.Goals as goal
-use Rattle.groups.proofs.settings.Settings.masks_ok.Goals.{else-all_masked-via-then-all_masked+else-not-admits, else-all_masked-via-else-all_masked}
+use Rattle.groups.proofs.grouping.Settings.masks_ok.Goals as goal
+use Rattle.groups.proofs.grouping.Settings.masks_ok.Goals.{else-all_masked-via-then-all_masked+else-not-admits, else-all_masked-via-else-all_masked}
 
 pub returns-then-not-admits : goal.returns-then-not-admits
 returns-then-not-admits g c =

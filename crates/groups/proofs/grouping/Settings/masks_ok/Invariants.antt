@@ -1,7 +1,7 @@
 use Rattle.std.proofs.Common.{◌≡◌, drop}
 use Rattle.model.specs.Questions.{masks_ok}
 use Rattle.groups.specs.Settings.{given_settings}
-use Rattle.groups.proofs.settings.Settings.masks_ok.Given as goal
+use Rattle.groups.proofs.grouping.Settings.masks_ok.Given as goal
 
 -- The keys of the sets so far are admitted.
 abbrev pub invariant-loop-set : goal.invariant-loop-set

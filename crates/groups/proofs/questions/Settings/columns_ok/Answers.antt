@@ -4,7 +4,7 @@ use Rattle.std.specs.List.{list_all}
 use Rattle.std.proofs.lemmas.Iterator.{YieldsList-from_slice}
 use Rattle.std.proofs.lemmas.Iterator.Search.{all_from_yields_List}
 use Rattle.model.specs.Questions.{expr_in}
-use Rattle.groups.proofs.settings.Settings.columns_ok.Goals as goal
+use Rattle.groups.proofs.questions.Settings.columns_ok.Goals as goal
 
 pub returns-then-all_below : goal.returns-then-all_below
 returns-then-all_below c =
