@@ -10,7 +10,7 @@ use group_values::GroupValues;
 
 /// That the worked examples hold, which is proved and not worked out here.
 pub fn worked_cases_hold<G: GroupValues, A: GroupsAccumulator>() -> bool
-    ensures { (result ≡ true) × WorkedCases A.GroupsAccumulator.aggregation G.GroupValues.admitted }
+    ensures { (result ≡ true) × WorkedCases A.aggregation G.admitted }
 {
     true
 }

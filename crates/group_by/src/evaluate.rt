@@ -2,7 +2,8 @@
 //!
 //! Ported from datafusion-physical-plan 55.0.0, src/aggregates/mod.rs, and changed.
 
-ghost use Rattle.std.specs.Prelude.{◌≡◌, false, [], ◌∷◌, length, take, Some, MatchOption, slice_index_or};
+ghost use Rattle.std.specs.Prelude.{◌≡◌, false, [], ◌∷◌, ◌++◌, length, replicate, take, Some, None, MatchOption, slice_index_or};
+ghost use Rattle.std.specs.Option.{option_map, option_to_list};
 ghost use Rattle.cells.specs.Views.{view_rows};
 ghost use Rattle.group_by.specs.Groupings.{key_of, masked_key, id_cells};
 ghost use Rattle.group_by.specs.Keys.{keys_of, HasKeys};
@@ -12,6 +13,20 @@ use crate::keys::GroupByKeys;
 use crate::physical::{GroupByRefused, PhysicalGroupBy};
 use cells::{Batch, Key};
 use std::alloc::Global;
+
+/// The key of a row of which no column is kept, as far as a key goes.
+pub fn masked_key(columns: usize, id: Option<i64>) -> Key
+    ensures { result ≡ take 7 (replicate columns None ++ option_to_list (option_map Some id)) }
+{
+    let mut key = Key::new();
+    for _ in 0..columns {
+        key.push(None);
+    }
+    if let Some(id) = id {
+        key.push(Some(id));
+    }
+    key
+}
 
 impl GroupByKeys {
     /// The grouping with its ids; it comes back where there are none.
@@ -72,14 +87,7 @@ impl GroupByKeys {
     pub fn masked_key(&self, set: usize) -> Key
         ensures { result ≡ take 7 (masked_key (keys_of self.now) set) }
     {
-        let mut key = Key::new();
-        for _ in &self.group_by.columns {
-            key.push(None);
-        }
-        if let Some(id) = self.id(set) {
-            key.push(Some(id));
-        }
-        key
+        masked_key(self.group_by.columns.len(), self.id(set))
     }
 
     fn is_masked(&self, set: usize, place: usize) -> bool

@@ -12,6 +12,7 @@ mod keys;
 mod physical;
 
 pub use count::{count_equal, distinct_positions};
+pub use evaluate::masked_key;
 pub use group_id::{GroupIdFault, group_id_array, ordinal_bits};
 pub use grouping_sets::{GroupByFault, group_ids, max_duplicate_ordinal};
 pub use keys::GroupByKeys;

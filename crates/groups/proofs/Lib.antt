@@ -4,8 +4,6 @@ pub mod Scanning
 pub mod Emitting
 pub mod Widths
 pub mod Totals
-pub mod Asking
 pub mod Positions
 pub mod Marks
-pub mod SetsAsked
 pub mod Passing

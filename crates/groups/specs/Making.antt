@@ -1,6 +1,7 @@
 -- The plan of settings, or the settings back. Assumes nothing.
 use Rattle.std.specs.Prelude.{◌≡◌, Bool, true, List, None, Ok, Err, Result}
 use Rattle.cells.specs.Rows.{CellOf}
+use Rattle.group_by.specs.declared.physical.PhysicalGroupBy.{PhysicalGroupBy}
 use Rattle.group_by.specs.Groupings.{group_by}
 use Rattle.group_by.specs.Sets.{IdsDiffer}
 use Rattle.accumulators.specs.Aggregations.{Aggregation}
@@ -13,7 +14,7 @@ use Rattle.groups.specs.Plans.{settings_of}
 use Rattle.groups.specs.Settings.{given_settings, given_setup, settings_refusal}
 
 -- settings come back as they were passed; only grouping sets want memory, once every question is answered yes
-abbrev pub Planned : {S : Type 0} → Aggregation S → (List CellOf → Bool) → Settings → Bool → Result Plan PlanRefused → Type 0
+abbrev pub Planned : {S : Type 0} → Aggregation S → (List CellOf → Bool) → Settings PhysicalGroupBy → Bool → Result Plan PlanRefused → Type 0
 Planned a admitted s new (Ok p) =
     (settings_fault (given_setup a admitted s) new ≡ None)
     × (settings_of p ≡ given_settings s)

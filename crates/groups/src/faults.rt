@@ -1,41 +1,41 @@
 //! The first question that is answered no.
 
-ghost use Rattle.std.specs.Prelude.{◌≡◌, Some};
-ghost use Rattle.std.specs.Option.{option_map};
+ghost use Rattle.std.specs.Prelude.{◌≡◌, IsSome, IfErr};
 ghost use Rattle.model.specs.Questions.{settings_fault};
-ghost use Rattle.groups.specs.Settings.{given_setup, settings_refusal};
+ghost use Rattle.groups.specs.Settings.{given_setup, settings_refusal, refusal_of};
 
-use crate::grouping::sets_ok;
-use crate::questions::{batch_size_ok, columns_ok, order_ok, parts_ok, ratio_ok};
 use crate::settings::{Settings, SettingsFault};
 use accumulators::GroupsAccumulator;
 use group_values::GroupValues;
 
-/// Why a stream cannot be set up so: the first question that is answered no.
-pub fn first_fault<G: GroupValues, A: GroupsAccumulator>(
-    settings: &Settings,
-    table: &G,
-    parts_are_new: bool,
-) -> Option<SettingsFault>
-    ensures { option_map settings_refusal result ≡ option_map Some (settings_fault (given_setup A.GroupsAccumulator.aggregation G.GroupValues.admitted settings.now) parts_are_new) }
-{
-    if !batch_size_ok::<G, A>(settings) {
-        return Some(SettingsFault::BatchSize);
+impl Settings {
+    /// Asks every question; the first that is answered no is why a stream cannot be set up so.
+    pub fn check<G: GroupValues, A: GroupsAccumulator>(
+        &self,
+        table: &G,
+        parts_are_new: bool,
+    ) -> Result<(), SettingsFault>
+        ensures first { refusal_of result ≡ settings_fault (given_setup A.aggregation G.admitted self.now) parts_are_new }
+        ensures refused { IfErr result (λ e. IsSome (settings_refusal e)) }
+    {
+        if !self.batch_size_ok() {
+            return Err(SettingsFault::BatchSize);
+        }
+        if !self.parts_ok::<A>() || !parts_are_new {
+            return Err(SettingsFault::Parts);
+        }
+        if !self.columns_ok() {
+            return Err(SettingsFault::Columns);
+        }
+        if !self.sets_ok(table) {
+            return Err(SettingsFault::GroupingSets);
+        }
+        if !self.order_ok() {
+            return Err(SettingsFault::Order);
+        }
+        if !self.ratio_ok() {
+            return Err(SettingsFault::Ratio);
+        }
+        Ok(())
     }
-    if !parts_ok::<G, A>(settings) || !parts_are_new {
-        return Some(SettingsFault::Parts);
-    }
-    if !columns_ok::<G, A>(settings) {
-        return Some(SettingsFault::Columns);
-    }
-    if !sets_ok::<G, A>(settings, table) {
-        return Some(SettingsFault::GroupingSets);
-    }
-    if !order_ok::<G, A>(settings) {
-        return Some(SettingsFault::Order);
-    }
-    if !ratio_ok::<G, A>(settings) {
-        return Some(SettingsFault::Ratio);
-    }
-    None
 }

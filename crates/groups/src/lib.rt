@@ -18,7 +18,6 @@ mod plans;
 mod questions;
 mod settings;
 
-pub use faults::first_fault;
 pub use held::{HeldGroups, HeldRefused};
-pub use plan::{AggregateMode, Plan};
-pub use settings::{PlanRefused, Settings, SettingsFault};
+pub use plan::Plan;
+pub use settings::{AggregateMode, PlanRefused, Settings, SettingsFault};

@@ -7,7 +7,8 @@ ghost use Rattle.model.specs.Setups.{is_linear, probes, first_probe};
 ghost use Rattle.model.specs.Steps.{wanted, limited, piece};
 ghost use Rattle.groups.specs.Plans.{settings_of};
 
-use crate::plan::{AggregateMode, Plan};
+use crate::plan::Plan;
+use crate::settings::AggregateMode;
 use order::{InputOrderMode, SkipAggregationProbe};
 
 impl Plan {
@@ -15,25 +16,22 @@ impl Plan {
     pub fn is_partial(&self) -> bool
         ensures { result ≡ (settings_of self.now).partial }
     {
-        match self.mode {
-            AggregateMode::Partial => true,
-            AggregateMode::Single => false,
-        }
+        self.settings.mode == AggregateMode::Partial
     }
 
     /// How many cells a row of the input has.
     pub fn columns(&self) -> usize
         ensures { result ≡ (settings_of self.now).columns }
     {
-        self.columns
+        self.settings.columns
     }
 
     /// Of the held groups, those wanted where memory is refused: whole batches, or all if there is less than one.
     pub fn wanted(&self, held: usize) -> usize
         ensures { result ≡ wanted (settings_of self.now).batch_size held }
     {
-        if held >= self.batch_size {
-            held / self.batch_size * self.batch_size
+        if held >= self.settings.batch_size {
+            held / self.settings.batch_size * self.settings.batch_size
         } else {
             held
         }
@@ -43,10 +41,7 @@ impl Plan {
     pub fn is_limited(&self, held: usize) -> bool
         ensures { result ≡ limited (settings_of self.now).soft_limit held }
     {
-        match self.soft_limit {
-            Some(limit) => limit <= held,
-            None => false,
-        }
+        self.settings.soft_limit.is_some_and(|limit| limit <= held)
     }
 
     /// How many of the rows that wait one take hands out.
@@ -56,7 +51,7 @@ impl Plan {
         if whole {
             waiting
         } else {
-            self.batch_size.min(waiting)
+            self.settings.batch_size.min(waiting)
         }
     }
 
@@ -64,31 +59,26 @@ impl Plan {
     fn is_linear(&self) -> bool
         ensures { result ≡ is_linear (settings_of self.now).order }
     {
-        match &self.order {
-            InputOrderMode::Linear => true,
-            InputOrderMode::Sorted => false,
-            InputOrderMode::PartiallySorted(_) => false,
-        }
+        matches!(self.settings.order, InputOrderMode::Linear)
     }
 
     /// Whether rows may be passed on ungrouped.
     fn probes(&self) -> bool
         ensures { result ≡ probes (settings_of self.now) }
     {
-        if !self.is_partial() || !self.is_linear() {
-            return false;
-        }
-        !self.keys.group_by().has_grouping_set && self.probe_ratio < 1.0
+        self.is_partial()
+            && self.is_linear()
+            && !self.group_by().has_grouping_set
+            && self.settings.probe_ratio < 1.0
     }
 
     /// The probe of a new stream, if it has one.
     pub fn new_probe(&self) -> Option<SkipAggregationProbe>
         ensures { option_map probe result ≡ first_probe (settings_of self.now) }
     {
-        if self.probes() {
-            Some(SkipAggregationProbe::new(self.probe_rows, self.probe_ratio))
-        } else {
-            None
-        }
+        self.probes().then(|| SkipAggregationProbe::new(
+            self.settings.probe_rows,
+            self.settings.probe_ratio,
+        ))
     }
 }

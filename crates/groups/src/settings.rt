@@ -1,23 +1,31 @@
-//! What a caller asks for.
+//! What a stream is set up with.
 
 ghost use Rattle.std.specs.Prelude.{◌≡◌};
 ghost use Rattle.std.specs.Option.{option_map};
 ghost use Rattle.groups.specs.Settings.{settings_refusal};
 
-use crate::plan::AggregateMode;
 use aggregates::AggregateExpr;
 use group_by::PhysicalGroupBy;
 use order::InputOrderMode;
 
-/// What a stream is to be set up with, before any question is asked.
+/// What is handed out.
+#[derive(Clone, Copy, PartialEq, Eq)]
+pub enum AggregateMode {
+    /// States, which a later stage joins.
+    Partial,
+    /// Results.
+    Single,
+}
+
+/// What a stream is set up with. A caller names what is grouped by; a plan knows the group ids as well.
 #[derive(Drop)]
-pub struct Settings {
+pub struct Settings<K = PhysicalGroupBy> {
     pub mode: AggregateMode,
     /// How many rows a take hands out.
     pub batch_size: usize,
     /// How many cells a row of the input has.
     pub columns: usize,
-    pub group_by: PhysicalGroupBy,
+    pub group_by: K,
     pub exprs: Vec<AggregateExpr>,
     pub order: InputOrderMode,
     /// So many held groups end the reading.

@@ -12,7 +12,8 @@ use Rattle.model.proofs.Totals.{total_append, held_append, held_sound}
 use Rattle.model.proofs.Feeding.{own_pairs}
 use Rattle.model.proofs.Absorbing.{Fit, state_at, total_held, keys_wide, own_pairs_all, own_pairs_sound, set_pairs, set_pairs_sound, absorbed-from}
 use Rattle.model.proofs.Owning.{owns-append, owns-by_set}
-use Rattle.model.proofs.Settled.{one_set_lem, sets_apart}
+use Rattle.model.proofs.Asked.{plain_set}
+use Rattle.model.proofs.Settled.{sets_apart}
 
 pub record Booked {S : Type 0} (u : Setup S) (rows gone : List (List CellOf)) (g : Groups S) : Type 0 where
   pub trace : List (List CellOf × S)
@@ -121,5 +122,5 @@ module _ {S : Type 0} (u : Setup S) (fine : Sensible u) where
         own_states : (k : List CellOf) → states_held u k (own_pairs u 0 more) ≡ owns u k more
         own_states k =
             ap (states_held u k) (sym (append-nil (own_pairs u 0 more)))
-            ∙ ap (λ (n : ℕ). states_held u k (set_pairs u 0 n more)) (sym (one_set_lem u fine alone))
+            ∙ ap (λ (n : ℕ). states_held u k (set_pairs u 0 n more)) (sym (plain_set u true fine.asked alone))
             ∙ owns-by_set u k (sets_apart u fine) more

@@ -7,6 +7,7 @@ pub mod Modes
 pub mod Keys
 pub mod Absorbing
 pub mod Owning
+pub mod Asked
 pub mod Settled
 pub mod Booked
 pub mod Moves

@@ -1,25 +1,20 @@
 -- What settings that passed their questions say: how many sets there are, and that their keys differ.
-use Rattle.std.proofs.Common.{◌≡◌, ℕ, zero, suc, ◌+◌, ◌<◌, ◌≤◌, Bool, true, false, not, ◌&&◌, ◌||◌, eqb, leb, List, [], ◌∷◌, ◌++◌, length, get_or, drop, replicate, pos, Some, None, Option, sym, refl, ap, ◌∙◌, subst, inl, inr, true≢false, append_assoc, append-nil, add-one, arith}
+use Rattle.std.proofs.Common.{◌≡◌, ℕ, suc, ◌+◌, ◌<◌, ◌≤◌, Bool, true, false, not, ◌&&◌, ◌||◌, List, [], ◌∷◌, ◌++◌, length, get_or, drop, replicate, pos, Some, None, sym, refl, ap, ◌∙◌, subst, inl, inr, true≢false, append_assoc, append-nil, add-one, arith}
 use Rattle.std.specs.List.{AllByRecursion as All}
 use Rattle.std.proofs.lemmas.List.{drop_at}
 use Rattle.std.proofs.lemmas.List.FromFn.{length-map-range_with_len}
-use Rattle.std.proofs.lemmas.Bool.{and_parts, or_cases, not-true, eqb-true, leb-true, cond-true, cond-false, cond_both, cases_Bool, cases_order}
-use Rattle.cells.specs.Refusals.{Refusal}
+use Rattle.std.proofs.lemmas.Bool.{and_parts, or_cases, not-true, cond-true, cond-false, cond_both, cases_Bool, cases_order}
 use Rattle.group_by.specs.Groupings.{GroupBy, id_cells, masked_key}
-use Rattle.group_by.specs.Sets.{Over, ids, id_at}
+use Rattle.group_by.specs.Sets.{ids, id_at}
 use Rattle.order.specs.Orders.{Mode, linear, sorted, partially}
 use Rattle.model.specs.Setups.{Setup, num_sets}
-use Rattle.model.specs.Questions.{every, between, all_masked, batch_size_ok, parts_ok, columns_ok, masks_ok, sets_ok, order_ok_in, unless}
+use Rattle.model.specs.Questions.{all_masked, masks_ok, order_ok_in}
 use Rattle.model.specs.Machine.{grand_keys_from, grand_keys, interned_all}
 use Rattle.model.specs.Law.{Sensible}
+use Rattle.model.proofs.Asked.{order_asked, plain_set, masks_asked, several, over}
 use Rattle.model.proofs.Gathering.{Cells, in_right, lacks_in, Lacks, Once, added_new, gathered, interned-all}
 use Rattle.model.proofs.Batches.{Wide, masked_wide}
 use Rattle.model.proofs.Emitting.{Grand}
-
-every-at : {X : Type 0} (p : X → Bool) (xs : List X) (i : ℕ) (d : X) → every p xs ≡ true → i < length xs → p (get_or xs i d) ≡ true
-every-at p [] i d e l = absurd (omega arith)
-every-at p (x ∷ xs) zero d e l = (and_parts (p x) (every p xs) e).0
-every-at p (x ∷ xs) (suc i) d e l = every-at p xs i d (and_parts (p x) (every p xs) e).1 (omega arith)
 
 -- keys that stand once are gathered as they are
 gathered_once_each : (xs ks : List Cells) → Once (xs ++ ks) → gathered xs ks ≡ xs ++ ks
@@ -38,52 +33,17 @@ module _ {S : Type 0} (u : Setup S) (sensible : Sensible u) where
   abbrev gb : GroupBy
   gb = u.settings.group_by
 
-  passed : (ok : Bool) (n : ℕ) (next : Option Refusal) → unless u ok n next ≡ None → (ok ≡ true) × (next ≡ None)
-  passed true n next e = (refl, e)
-  passed false n next e = absurd (let z : ◌≡◌ {A = ℕ} 0 1 = cc in omega arith)
-
-  both_asked : (sets_ok u ≡ true) × (order_ok_in u u.settings.order ≡ true)
-  both_asked =
-      let one = passed (batch_size_ok u) 1 _ sensible.asked in
-      let two = passed (parts_ok u && true) 2 _ one.1 in
-      let three = passed (columns_ok u) 3 _ two.1 in
-      let four = passed (sets_ok u) 4 _ three.1 in
-      let five = passed (order_ok_in u u.settings.order) 5 _ four.1 in
-      (four.0, five.0)
-
-  plain_set : gb.grouped ≡ false → num_sets u.settings ≡ 1
-  plain_set e =
-      eqb-true (length gb.sets) 1 (and_parts (eqb (length gb.sets) 1) _ (sym (cond-false gb.grouped _ _ e) ∙ both_asked.0)).0
-
   -- a declared order has one set
   pub one_set_lem : (u.settings.order ≡ linear → ⊥) → num_sets u.settings ≡ 1
-  one_set_lem other = go u.settings.order other both_asked.1
+  one_set_lem other = go u.settings.order other (order_asked u true sensible.asked)
     where
-      go : (mode : Mode) → (mode ≡ linear → ⊥) → order_ok_in u mode ≡ true → num_sets u.settings ≡ 1
+      go : (mode : Mode) → (mode ≡ linear → ⊥) → order_ok_in u.settings mode ≡ true → num_sets u.settings ≡ 1
       go linear n ok = absurd (n refl)
-      go sorted n ok = plain_set (not-true gb.grouped ok)
+      go sorted n ok = plain_set u true sensible.asked (not-true gb.grouped ok)
       go (partially positions) n ok =
-          plain_set (not-true gb.grouped (and_parts (not gb.grouped) _ (and_parts (not gb.grouped && _) _ ok).0).0)
+          plain_set u true sensible.asked (not-true gb.grouped (and_parts (not gb.grouped) _ (and_parts (not gb.grouped && _) _ ok).0).0)
 
   module _ (grouped : gb.grouped ≡ true) where
-    sets_asked :
-        ((between 1 8 (length gb.sets) && every (λ marks. eqb (length marks) (length gb.columns)) gb.sets) ≡ true)
-        × (masks_ok u 0 gb.sets ≡ true)
-    sets_asked = and_parts _ _ (sym (cond-true gb.grouped _ _ grouped) ∙ both_asked.0)
-
-    numbers : (between 1 8 (length gb.sets) ≡ true) × (every (λ marks. eqb (length marks) (length gb.columns)) gb.sets ≡ true)
-    numbers = and_parts _ _ sets_asked.0
-
-    few_sets : (1 ≤ length gb.sets) × (length gb.sets ≤ 8)
-    few_sets =
-        let b = and_parts (leb 1 (length gb.sets)) (leb (length gb.sets) 8) numbers.0 in
-        (leb-true 1 (length gb.sets) b.0, leb-true (length gb.sets) 8 b.1)
-
-    over : Over (length gb.columns) gb.sets
-    over i l =
-        eqb-true (length (get_or gb.sets i [])) (length gb.columns)
-        (every-at (λ marks. eqb (length marks) (length gb.columns)) gb.sets i [] numbers.1 l)
-
     ids-apart : (s t : ℕ) → s < t → t < length gb.sets → id_cells gb s ≡ id_cells gb t → ⊥
     ids-apart s t l h e =
         let shown : (i : ℕ) → id_cells gb i ≡ Some (get_or (ids gb.sets) i (pos 0)) ∷ [] = λ i. cond-true gb.grouped _ _ grouped in
@@ -91,10 +51,10 @@ module _ {S : Type 0} (u : Setup S) (sensible : Sensible u) where
         sym (shown s) ∙ e ∙ shown t in
         let same : get_or (ids gb.sets) s (pos 0) ≡ get_or (ids gb.sets) t (pos 0) = cc in
         let long : length (ids gb.sets) ≡ length gb.sets = length-map-range_with_len (id_at gb.sets) 0 (length gb.sets) in
-        sensible.numbered grouped (length gb.columns) over s t (pos 0) l (omega arith) same
+        sensible.numbered grouped (length gb.columns) (over u true sensible.asked grouped) s t (pos 0) l (omega arith) same
 
   pub some_sets : 1 ≤ num_sets u.settings
-  some_sets = elim (cases_Bool gb.grouped) [ inl e ↦ (few_sets e).0 | inr e ↦ omega (arith, plain_set e) ]
+  some_sets = elim (cases_Bool gb.grouped) [ inl e ↦ (several u true sensible.asked e).0 | inr e ↦ omega (arith, plain_set u true sensible.asked e) ]
 
   -- a key tells its set
   pub sets_apart : (s t : ℕ) (a b : Cells) → s < num_sets u.settings → t < num_sets u.settings → length a ≡ length b
@@ -105,7 +65,7 @@ module _ {S : Type 0} (u : Setup S) (sensible : Sensible u) where
       | inr (inl less) ↦ absurd (ids-apart grouped s t less h cells)
       | inr (inr more) ↦ absurd (ids-apart grouped t s more l (sym cells))
     ]
-    | inr plain ↦ omega (arith, plain_set plain)
+    | inr plain ↦ omega (arith, plain_set u true sensible.asked plain)
   ]
     where
       cells : id_cells gb s ≡ id_cells gb t
@@ -113,12 +73,12 @@ module _ {S : Type 0} (u : Setup S) (sensible : Sensible u) where
 
   -- ---- the grand totals' keys
 
-  masks_in : (s : ℕ) (sets : List (List Bool)) → masks_ok u s sets ≡ true
+  masks_in : (s : ℕ) (sets : List (List Bool)) → masks_ok u.settings u.admitted s sets ≡ true
       → All (λ k. u.admitted k ≡ true) (grand_keys_from u s sets)
   masks_in s [] e = tt
   masks_in s (marks ∷ sets) e =
-      let parts = and_parts (not (all_masked marks) || u.admitted (masked_key gb s)) (masks_ok u (suc s) sets) e in
-      let rest = masks_in (s + 1) sets (ap (λ (n : ℕ). masks_ok u n sets) (add-one s) ∙ parts.1) in
+      let parts = and_parts (not (all_masked marks) || u.admitted (masked_key gb s)) (masks_ok u.settings u.admitted (suc s) sets) e in
+      let rest = masks_in (s + 1) sets (ap (λ (n : ℕ). masks_ok u.settings u.admitted n sets) (add-one s) ∙ parts.1) in
       cond_both (all_masked marks) _ _ (λ (ks : List Cells). All (λ k. u.admitted k ≡ true) ks)
       (λ m. (
         elim (or_cases (not (all_masked marks)) (u.admitted (masked_key gb s)) parts.0) [
@@ -167,8 +127,8 @@ module _ {S : Type 0} (u : Setup S) (sensible : Sensible u) where
           record {
             interns =
                 ap (interned_all u.admitted []) is
-                ∙ (interned-all u.admitted [] keys (masks_in 0 gb.sets (sets_asked e).1)
-                (omega (arith, grand_few 0 gb.sets, (few_sets e).1))).0
+                ∙ (interned-all u.admitted [] keys (masks_in 0 gb.sets (masks_asked u true sensible.asked e))
+                (omega (arith, grand_few 0 gb.sets, (several u true sensible.asked e).1))).0
                 ∙ gathered_once_each [] keys (grand_once 0 gb.sets (omega arith))
                 ∙ sym is;
             wide = subst (All (Wide u)) (sym is) (grand_wide 0 gb.sets);

@@ -1,20 +1,11 @@
-use Rattle.std.proofs.Common.{Bool, false, List, replicate, sym, ap, ◌∙◌}
-use Rattle.group_by.specs.Sets.{same_marks}
-use Rattle.groups.proofs.Asking.{sets_no, sets_more, sets_all}
+use Rattle.std.proofs.Common.{vec_items, sym, ◌∙◌, rules}
+use borrow.Author.Tests.{tests}
+use Rattle.std.proofs.lemmas.List.Folds.{list_all-map}
+use Rattle.std.proofs.lemmas.Iterator.{YieldsList-from_slice}
+use Rattle.std.proofs.lemmas.Iterator.Search.{all_from_yields_List}
 use Rattle.groups.proofs.grouping.all_plain.Goals as goal
-
-pub returns-then-not-none_masked : goal.returns-then-not-none_masked
-returns-then-not-none_masked c =
-    let p : List Bool → Bool = λ marks. same_marks marks (replicate c.args.columns false) in
-    sets_no p c.args.groups.now c.loop-marks.marks-index c.loop-marks.invariant c.marks-item.result c.loop-marks-test.true c.marks-item.is
-    (ap p (sym c.deref.ensures.value) ∙ sym c.if-not-none_masked.ensures)
-
-pub loop-marks-preserved : goal.loop-marks-preserved
-loop-marks-preserved c =
-    let p : List Bool → Bool = λ marks. same_marks marks (replicate c.args.columns false) in
-    sets_more p c.args.groups.now c.loop-marks.marks-index c.loop-marks.invariant c.marks-item.result c.loop-marks-test.true c.marks-item.is
-    (ap p (sym c.deref.ensures.value) ∙ sym c.if-not-none_masked.ensures)
 
 pub returns : goal.returns
 returns c =
-    sets_all (λ (marks : List Bool). same_marks marks (replicate c.args.columns false)) c.args.groups.now c.loop-marks.marks-index c.loop-marks.invariant c.loop-marks-test.false
+    all_from_yields_List _ _ _ _ c.all.ensures.ran (YieldsList-from_slice c.args.groups.now cc) (λ x b q k. search (rules, tests))
+    ∙ sym (list_all-map _ vec_items c.args.groups.now)

@@ -1,7 +1,7 @@
 use Rattle.std.proofs.Common.{refl}
 use lib.Ieee.{round, units, odd, size, span, climb, of_bits, of_fields}
-use Rattle.groups.proofs.questions.ratio_ok.Goals as goal
+use Rattle.groups.proofs.questions.Settings.ratio_ok.Goals as goal
 
 pub returns : goal.returns
 unfolding round units odd size span climb of_bits of_fields
-returns g c = refl
+returns c = refl

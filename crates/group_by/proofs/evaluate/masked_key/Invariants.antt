@@ -1,5 +1,5 @@
 use Rattle.std.proofs.Common.{◌≡◌, take, replicate, None}
-use Rattle.groups.proofs.grouping.masked_key.Given as goal
+use Rattle.group_by.proofs.evaluate.masked_key.Given as goal
 
 -- As many absent cells as there were turns.
 abbrev pub invariant-loop : goal.invariant-loop
