@@ -33,6 +33,7 @@ impl Settings {
         requires { Sized (grouping_of self.now.group_by) × ((grouping_of self.now.group_by).grouped ≡ true) }
         ensures { result ≡ masks_ok (given_settings self.now) G.admitted 0 (grouping_of self.now.group_by).sets }
     {
+        // A loop, since a closure in a chain would not know that the set is one of them.
         for (set, marks) in self.group_by.groups.iter().enumerate() {
             if all_masked(marks) && !table.admits(&set_key(&self.group_by, set)) {
                 return false;

@@ -10,12 +10,14 @@ ghost use Rattle.order.specs.Orders.{done};
 ghost use Rattle.order.specs.Tracked.{order_of};
 ghost use Rattle.model.specs.Setups.{row_key, need, out_row};
 ghost use Rattle.model.specs.Machine.{interned_all, placed_all, absorbed_set, absorbed, shed, emission, converted, groups, grand_keys, totalled};
-ghost use Rattle.groups.specs.Plans.{is_partial, settings_of, setup_of};
+ghost use Rattle.groups.specs.Plans.{settings_of, setup_of};
+ghost use Rattle.groups.specs.Settings.{is_partial};
 ghost use Rattle.model.specs.Steps.{key_out};
 ghost use Rattle.groups.specs.Held.{held_of, Narrow};
 
 use crate::held::HeldGroups;
-use crate::plan::{AggregateMode, Plan};
+use crate::plan::Plan;
+use crate::settings::AggregateMode;
 use accumulators::GroupsAccumulator;
 use cells::{Batch, EmitTo, MAX_GROUPS};
 use group_values::GroupValues;
@@ -52,7 +54,7 @@ impl<G: GroupValues, A: GroupsAccumulator> HeldGroups<G, A> {
         let total_num_groups = self.group_values.len();
         self.accumulator.update_batch(
             batch,
-            &plan.exprs,
+            &plan.settings.exprs,
             &self.current_group_indices,
             total_num_groups,
         );
@@ -77,7 +79,7 @@ impl<G: GroupValues, A: GroupsAccumulator> HeldGroups<G, A> {
     /// Interns the key of each wholly masked grouping set; its state is neutral.
     fn make_totals(&mut self, plan: &Plan)
         ensures table { G.keys self.new.group_values ≡ interned_all G.admitted (G.keys self.old.group_values) (grand_keys (setup_of A.aggregation G.admitted plan.now)) }
-        ensures states { A.states self.new.accumulator ≡ updated A.aggregation plan.now.exprs.items [] [] (length (G.keys self.new.group_values)) (A.states self.old.accumulator) }
+        ensures states { A.states self.new.accumulator ≡ updated A.aggregation plan.now.settings.exprs.items [] [] (length (G.keys self.new.group_values)) (A.states self.old.accumulator) }
         ensures ordering { self.new.group_ordering ≡ self.old.group_ordering }
     {
         for set in 0..plan.num_sets() {
@@ -88,7 +90,7 @@ impl<G: GroupValues, A: GroupsAccumulator> HeldGroups<G, A> {
         if let Ok(no_rows) = Batch::new(&[], &[], 1) {
             let total_num_groups = self.group_values.len();
             self.accumulator
-                .update_batch(&no_rows, &plan.exprs, &[], total_num_groups);
+                .update_batch(&no_rows, &plan.settings.exprs, &[], total_num_groups);
         }
     }
 
@@ -154,7 +156,7 @@ impl<G: GroupValues, A: GroupsAccumulator> HeldGroups<G, A> {
     {
         let key = self.group_values.key(group);
         // Two arms say which; a writer chosen beforehand would be called from afar.
-        match plan.mode {
+        match plan.settings.mode {
             AggregateMode::Partial => state_row(&key, &self.accumulator, group),
             AggregateMode::Single => result_row(&key, &self.accumulator, group),
         }
@@ -172,12 +174,12 @@ impl<G: GroupValues, A: GroupsAccumulator> HeldGroups<G, A> {
 
     /// Puts the rows of a batch to wait, each with its own state, in the place of whatever waited.
     pub fn convert_rows(&self, plan: &Plan, batch: &Batch<'_, '_>, waiting: &mut Waiting)
-        ensures { Narrow A.aggregation → is_partial plan.now.mode ≡ true → waiting_rows waiting.new ≡ converted (setup_of A.aggregation G.admitted plan.now) (view_rows batch.now) }
+        ensures { Narrow A.aggregation → is_partial plan.now.settings.mode ≡ true → waiting_rows waiting.new ≡ converted (setup_of A.aggregation G.admitted plan.now) (view_rows batch.now) }
     {
         waiting.clear();
         for row in 0..batch.num_rows() {
             let key = plan.row_key(batch, row, 0);
-            waiting.push(converted_row(&key, &self.accumulator, batch, &plan.exprs, row));
+            waiting.push(converted_row(&key, &self.accumulator, batch, &plan.settings.exprs, row));
         }
     }
 }

@@ -54,7 +54,7 @@ pub enum SettingsFault {
 }
 
 impl SettingsFault {
-    /// The refusal's number; want of memory has none.
+    /// The refusal's number, by which documents and programs name it; want of memory has none.
     pub fn number(self) -> Option<u32>
         ensures { result ≡ option_map (λ e. e.number) (settings_refusal self) }
     {

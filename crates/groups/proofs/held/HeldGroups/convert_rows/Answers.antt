@@ -19,7 +19,7 @@ loop-row-preserved g c narrow partial =
     let rows = view_rows c.args.batch.now in
     let i = c.loop-row.row in
     let row = get_or rows i [] in
-    let exprs = vec_items c.args.plan.now.exprs in
+    let exprs = vec_items c.args.plan.now.settings.exprs in
     let key = row_key (settings_of c.args.plan.now) 0 row in
     let turn : List CellOf → List CellOf = λ r. out_row u (row_key (settings_of c.args.plan.now) 0 r) (a.own exprs r) in
     let inside : i < length rows = omega (arith, c.loop-row-test.true, c.num_rows-row-end.ensures.value) in
@@ -37,6 +37,6 @@ returns g c narrow partial =
     let a = g.A.GroupsAccumulator.aggregation in
     let u = setup_of a g.G.GroupValues.admitted c.args.plan.now in
     let rows = view_rows c.args.batch.now in
-    let turn : List CellOf → List CellOf = λ r. out_row u (row_key (settings_of c.args.plan.now) 0 r) (a.own (vec_items c.args.plan.now.exprs) r) in
+    let turn : List CellOf → List CellOf = λ r. out_row u (row_key (settings_of c.args.plan.now) 0 r) (a.own (vec_items c.args.plan.now.settings.exprs) r) in
     (c.loop-row.invariant narrow partial).rows
     ∙ take_all c.loop-row.row (converted u rows) (omega (arith, c.loop-row-test.false, c.num_rows-row-end.ensures.value, length-map rows turn))

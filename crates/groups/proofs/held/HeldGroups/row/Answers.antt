@@ -1,8 +1,8 @@
 use Rattle.std.proofs.Common.{cond, List, [], ◌++◌, get_or, take, sym, ap, ◌∙◌, arith}
 use Rattle.std.proofs.lemmas.List.{take_all}
 use Rattle.cells.specs.Rows.{CellOf}
-use Rattle.groups.specs.declared.plan.AggregateMode.{AggregateMode}
-use Rattle.groups.specs.Plans.{is_partial}
+use Rattle.groups.specs.declared.settings.AggregateMode.{AggregateMode}
+use Rattle.groups.specs.Settings.{is_partial}
 use Rattle.groups.proofs.held.HeldGroups.row.Goals as goal
 
 pub returns-in-Partial : goal.returns-in-Partial
