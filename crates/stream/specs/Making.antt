@@ -3,6 +3,7 @@ use Rattle.std.specs.Prelude.{◌≡◌, Bool, true, ◌&&◌, length, None, Ok,
 use Rattle.accumulators.specs.declared.groups_accumulator.GroupsAccumulator as GroupsAccumulator
 use Rattle.group_values.specs.declared.group_values.GroupValues as GroupValues
 use Rattle.memory.specs.declared.reservation.MemoryReservation as MemoryReservation
+use Rattle.group_by.specs.declared.physical.PhysicalGroupBy.{PhysicalGroupBy}
 use Rattle.groups.specs.declared.held.HeldGroups.{HeldGroups}
 use Rattle.groups.specs.declared.settings.Settings.{Settings}
 use Rattle.groups.specs.Plans.{settings_of}
@@ -23,7 +24,7 @@ are_new g a r parts =
 
 module _ {G A S R : Type 0} {g : GroupValues.Ghosts G} {a : GroupsAccumulator.Ghosts A S} where
   -- the parts that held groups were made of, with these settings and this reservation
-  abbrev pub parts_in : Settings → HeldGroups G A S g a → R → StreamParts G A R
+  abbrev pub parts_in : Settings PhysicalGroupBy → HeldGroups G A S g a → R → StreamParts G A R
   parts_in settings held reservation = record {
     settings = settings;
     group_values = held.group_values;

@@ -9,7 +9,7 @@ ghost use Rattle.order.specs.Skip.{told};
 ghost use Rattle.model.specs.Machine.{emits, count, says, with_probe};
 ghost use Rattle.model.specs.Steps.{accepted, reserved, probed, settled, ended, grouped, bypassed};
 ghost use Rattle.cells.specs.Views.{view_rows};
-ghost use Rattle.groups.specs.Plans.{is_partial};
+ghost use Rattle.groups.specs.Settings.{is_partial};
 ghost use Rattle.stream.specs.Refusals.{offer_answer, UnlessNoMemory};
 ghost use Rattle.stream.specs.Streams.{model_of, setup_in, Countable, CountableIn, handled, Does, Goes};
 
@@ -146,7 +146,7 @@ impl<G: GroupValues, A: GroupsAccumulator, R: MemoryReservation> GroupedHashAggr
     /// The batch's rows go to wait as they are, each with its own state.
     fn transform_to_states(&mut self, batch: &Batch<'_, '_>)
         requires countable { Countable self.old.rows batch.now }
-        requires partial { is_partial self.old.plan.mode ≡ true }
+        requires partial { is_partial self.old.plan.settings.mode ≡ true }
         ensures { Does (λ u m _ _. bypassed u m (view_rows batch.now)) self.old self.new accepted }
     {
         self.held.convert_rows(&self.plan, batch, &mut self.waiting);

@@ -13,7 +13,7 @@ ghost use Rattle.stream.specs.Making.{are_new, parts_in, Founded};
 use crate::state::{ExecutionState, GroupedHashAggregateStream, StreamParts, StreamRefused};
 use accumulators::GroupsAccumulator;
 use group_values::GroupValues;
-use groups::{HeldGroups, Plan, Settings, SettingsFault, first_fault};
+use groups::{HeldGroups, Plan, Settings, SettingsFault};
 use memory::MemoryReservation;
 use output::Waiting;
 use std::alloc::Global;
@@ -44,7 +44,7 @@ impl<G: GroupValues, A: GroupsAccumulator, R: MemoryReservation> GroupedHashAggr
         ensures { Founded parts result }
     {
         let new = parts.are_new();
-        if let Some(fault) = first_fault::<G, A>(&parts.settings, &parts.group_values, new) {
+        if let Err(fault) = parts.settings.check::<G, A>(&parts.group_values, new) {
             return Err(StreamRefused { parts, fault });
         }
         let StreamParts {

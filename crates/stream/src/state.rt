@@ -2,7 +2,7 @@
 
 ghost use Rattle.std.specs.Prelude.{◌≡◌, true, is_some};
 ghost use Rattle.groups.specs.Held.{Narrow};
-ghost use Rattle.groups.specs.Plans.{is_partial};
+ghost use Rattle.groups.specs.Settings.{is_partial};
 ghost use Rattle.stream.specs.Passing.{passes_on};
 
 use accumulators::GroupsAccumulator;
@@ -55,8 +55,8 @@ pub struct GroupedHashAggregateStream<G: GroupValues, A: GroupsAccumulator, R: M
     // A row has room for the states and for the results.
     ghost narrow: { Narrow A.aggregation },
     // Only Partial mode has a probe, and passes rows on.
-    ghost probing: { is_some skip_aggregation_probe ≡ true → is_partial plan.mode ≡ true },
-    ghost passing: { passes_on exec_state ≡ true → is_partial plan.mode ≡ true },
+    ghost probing: { is_some skip_aggregation_probe ≡ true → is_partial plan.settings.mode ≡ true },
+    ghost passing: { passes_on exec_state ≡ true → is_partial plan.settings.mode ≡ true },
 }
 
 /// A stream whose input is finished: what it still holds is taken, and nothing is offered any more.
