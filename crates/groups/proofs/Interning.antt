@@ -23,7 +23,6 @@ pub record Interned (admitted : List CellOf → Bool) (before : List (List CellO
   pub places_are : places ≡ placed_all admitted before (take i ks)
 
 module _ (admitted : List CellOf → Bool) (before ks : List (List CellOf)) where
-
   module _ (i : ℕ) (table : List (List CellOf)) (kept : List (List CellOf)) (places : List ℕ) (so_far : Interned admitted before ks i table kept places) where
     pub interned-more : (key : List CellOf) (table' : List (List CellOf)) (o : Option ℕ) (kept' : List (List CellOf)) (place : ℕ) (places' : List ℕ) → i < length ks
         → key ≡ get_or ks i [] → table' ≡ interned admitted table key → o ≡ placed admitted table key

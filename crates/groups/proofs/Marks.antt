@@ -77,9 +77,6 @@ module _ (groups : List (Vec Bool Global)) (i o : ℕ) (marks : List Bool) (few 
 -- ---- the key of a set that masks a row whole
 
 module _ (gb : GroupBy) (s : ℕ) (sized : Sized gb) (l : s < length gb.sets) where
-  pub set_short : length (get_or gb.sets s []) ≤ 6
-  set_short = omega (arith, sized.marks s l, sized.columns)
-
   pub masked_is : (n : ℕ) (id : ℤ) (key : List CellOf) → gb.grouped ≡ true → n ≡ length gb.columns → id ≡ id_at gb.sets s
       → key ≡ take 7 (replicate n None ++ Some id ∷ []) → key ≡ masked_key gb s
   masked_is n id key grouped all at h =

@@ -1,45 +1,14 @@
 -- The wholly masked sets, found one after the other.
-use Rattle.std.proofs.Common.{◌≡◌, ℕ, ◌+◌, ◌<◌, ◌≤◌, Bool, true, false, cond, ◌&&◌, ltb, List, [], ◌∷◌, length, get_or, drop, vec_items, Vec, sym, refl, ap, ◌∙◌, arith}
-use Rattle.std.specs.declared.alloc.Global.{Global}
-use Rattle.std.proofs.lemmas.List.{at_drop_more, at_drop_all, get_or-map, length-map}
-use Rattle.std.proofs.lemmas.Bool.{lt-ltb, le-ltb}
+use Rattle.std.proofs.Common.{◌≡◌, ℕ, ◌+◌, ◌<◌, ◌≤◌, Bool, true, false, cond, ◌&&◌, ltb, List, [], ◌∷◌, length, get_or, drop, sym, refl, ap, ◌∙◌}
+use Rattle.std.proofs.lemmas.List.{at_drop_more, at_drop_all}
+use Rattle.std.proofs.lemmas.Bool.{lt-ltb}
 use Rattle.cells.specs.Rows.{CellOf}
 use Rattle.group_by.specs.Groupings.{masked_key}
-use Rattle.group_by.specs.Sets.{sets_of}
 use Rattle.model.specs.Questions.{all_masked}
-use Rattle.model.specs.Setups.{Settings, Setup, num_sets}
+use Rattle.model.specs.Setups.{Setup, num_sets}
 use Rattle.model.specs.Machine.{interned_all, grand_keys_from, grand_keys}
 use Rattle.group_values.specs.Tables.{interned}
 use Rattle.groups.specs.Plans.{is_grand}
-
--- the marks from the i-th on, by the i-th
-pub marks_left : (marks : List Bool) (i : ℕ) (m : Bool) → i < length marks → get_or marks i false ≡ m
-    → all_masked (drop i marks) ≡ m && all_masked (drop (i + 1) marks)
-marks_left marks i m l is =
-    at_drop_more all_masked marks i false l
-    ∙ ap (λ (b : Bool). b && all_masked (drop (i + 1) marks)) is
-
-and_false : (b : Bool) → false ≡ b && false
-and_false true = refl
-and_false false = refl
-
-module _ (st : Settings) (s : ℕ) where
-  pub no_grand : st.group_by.grouped ≡ false → false ≡ is_grand st s
-  no_grand is = sym (ap (λ (b : Bool). b && (ltb s (num_sets st) && all_masked (get_or st.group_by.sets s []))) is)
-
-  pub past_grand : num_sets st ≤ s → false ≡ is_grand st s
-  past_grand past =
-      and_false st.group_by.grouped
-      ∙ sym (ap (λ (b : Bool). st.group_by.grouped && (b && all_masked (get_or st.group_by.sets s []))) (le-ltb s (num_sets st) past))
-
-  pub grand_is : (groups : List (Vec Bool Global)) (g : Vec Bool Global) (r : Bool) → st.group_by.sets ≡ sets_of groups → st.group_by.grouped ≡ true
-      → s < length groups → g ≡ get_or groups s g → r ≡ all_masked (vec_items g) → r ≡ is_grand st s
-  grand_is groups g r sets-are is l at answer =
-      let within : s < num_sets st = omega (arith, l, ap length sets-are, length-map groups vec_items) in
-      let marks : vec_items g ≡ get_or st.group_by.sets s [] = ap vec_items at ∙ sym (get_or-map vec_items groups s g [] l) ∙ sym (ap (λ (sets : List (List Bool)). get_or sets s []) sets-are) in
-      answer ∙ ap all_masked marks
-      ∙ sym (ap (λ (b : Bool). b && all_masked (get_or st.group_by.sets s [])) (lt-ltb s (num_sets st) within))
-      ∙ sym (ap (λ (b : Bool). b && (ltb s (num_sets st) && all_masked (get_or st.group_by.sets s []))) is)
 
 module _ {S : Type 0} (u : Setup S) where
   abbrev sets : List (List Bool)

@@ -1,7 +1,7 @@
 -- What it says of settings that no question is answered no.
-use Rattle.std.proofs.Common.{◌≡◌, ℕ, ◌<◌, ◌≤◌, Bool, true, false, ◌&&◌, eqb, leb, [], length, None, Option, refl, sym, ◌∙◌, inl, inr, arith}
+use Rattle.std.proofs.Common.{◌≡◌, ℕ, ◌≤◌, Bool, true, false, ◌&&◌, eqb, leb, [], length, None, Option, refl, sym, ◌∙◌}
 use Rattle.std.specs.List.{list_all}
-use Rattle.std.proofs.lemmas.Bool.{and_parts, cases_Bool, cond-true, cond-false, eqb-true, leb-true}
+use Rattle.std.proofs.lemmas.Bool.{and_parts, cond-true, cond-false, eqb-true, leb-true}
 use Rattle.std.proofs.lemmas.List.Sums.{AllPass-from_list_all}
 use Rattle.cells.specs.Refusals.{Refusal}
 use Rattle.group_by.specs.Groupings.{GroupBy}
@@ -39,9 +39,6 @@ module _ {S : Type 0} (u : Setup S) (new : Bool) (fine : settings_fault u new �
   fourth : (sets_ok u.settings u.admitted ≡ true) × (from_fifth ≡ None)
   fourth = passed (sets_ok u.settings u.admitted) 4 from_fifth (passed (columns_ok u.settings) 3 _ second.1).1
 
-  pub some_rows : 0 < u.settings.batch_size
-  some_rows = omega (arith, (within 1 512 u.settings.batch_size first.0).0)
-
   pub parts_asked : (parts_ok u.settings u.aggregation ≡ true) × (new ≡ true)
   parts_asked = and_parts (parts_ok u.settings u.aggregation) new second.0
 
@@ -69,6 +66,3 @@ module _ {S : Type 0} (u : Setup S) (new : Bool) (fine : settings_fault u new �
     pub over : Over (length gb.columns) gb.sets
     unfolding fit
     over i l = eqb-true _ _ (AllPass-from_list_all _ gb.sets (and_parts (between 1 8 (length gb.sets)) fit sized.0).1 i [] l)
-
-  pub few_sets : length gb.sets ≤ 8
-  few_sets = elim (cases_Bool gb.grouped) [ inl e ↦ (several e).1 | inr e ↦ omega (arith, plain_set e) ]
