@@ -1,11 +1,9 @@
 -- Every list of sort keys but the empty one has one last run, which `last_run` says, and a search from the back finds it.
-use Rattle.std.proofs.Common.{◌≡◌, ◌≢◌, Bool, true, false, not, true≢false, ℕ, zero, suc, ◌-◌, ◌<◌, ◌≤◌, List, [], ◌∷◌, length, get_or, sym, refl, ap, ◌∙◌, arith, inl, inr}
+use Rattle.std.proofs.Common.{◌≡◌, ◌≢◌, Bool, true, false, cond, not, true≢false, ℕ, zero, suc, ◌-◌, ◌<◌, ◌≤◌, List, [], ◌∷◌, length, get_or, sym, refl, ap, ◌∙◌, arith, inl, inr}
 use Rattle.std.specs.Option.{option_eq}
 use Rattle.std.specs.Ordering.{int_eq}
 use Rattle.std.specs.Cmp.Lexicographic.{pointwise}
-use Rattle.std.proofs.lemmas.Bool.{not-false, not_from_true, cond-true, cond-false, and_from, false_from_ne_true, cases_lt}
-use Rattle.std.proofs.lemmas.Bool.Decides.{Decides-by_and}
-use Rattle.std.proofs.lemmas.List.Elements.{All-get_or}
+use Rattle.std.proofs.lemmas.Bool.{not-false, not_from_true, and_parts, cases_lt}
 use Rattle.std.proofs.lemmas.List.Recursion.{and_from_places}
 use Rattle.cells.specs.Rows.{CellOf}
 use Rattle.cells.specs.Same.{same_key}
