@@ -1,11 +1,8 @@
 -- The index of the small table: what it says of the keys, and that it stays so when a slot is added.
-use Rattle.std.specs.Prelude.{Bool, ◌||◌, Some, None, Option, eqb, set, ◌≡◌, ℕ, zero, suc, ◌+◌, ◌<◌, ◌≤◌, true, List, [], ◌∷◌, ◌++◌, map, length, get_or, take, drop, replicate, ◌≢◌, slice_index, slice_index_or, refl}
-use Rattle.std.specs.List.{list_any}
-use Rattle.std.proofs.Common.{sym, ap, ◌∙◌, subst, inl, inr, true≢false, arith}
-use Rattle.std.proofs.lemmas.List.{length_push, length-set, length-map, get_or_append_left, get_or_push, get_or-set_same, get_or-set_other, get_or-map, get_or_past, get_or_default, get_or-replicate, get_or-take, get_or-drop, length-drop, length-take-le, take_more}
-use Rattle.std.proofs.lemmas.Bool.{cases_Bool, cases_lt, cases_eq, le-leb, eqb-true}
-use Rattle.std.proofs.lemmas.Map.Keys.{IsDistinct-from_apart}
-use Rattle.std.proofs.lemmas.Map.Steps.{length-le_from_distinct_below}
+use Rattle.std.specs.Prelude.{Some, None, Option, set, ◌≡◌, ℕ, zero, suc, ◌+◌, ◌<◌, ◌≤◌, true, List, [], ◌∷◌, ◌++◌, map, length, get_or, take, drop, replicate, ◌≢◌, slice_index, slice_index_or, refl}
+use Rattle.std.proofs.Common.{sym, ap, ◌∙◌, subst, inl, inr, arith}
+use Rattle.std.proofs.lemmas.List.{length_push, length-set, length-map, get_or_append_left, get_or_push, get_or-set_same, get_or-set_other, get_or-map, get_or_past, get_or-replicate, get_or-take, get_or-drop, length-drop, length-take-le, take_more}
+use Rattle.std.proofs.lemmas.Bool.{cases_lt, cases_eq, le-leb}
 use Rattle.cells.specs.Rows.{CellOf}
 use Rattle.group_values.specs.Slots.{small_key, slot_key, filled, Below, SlotIndex}
 use Rattle.group_values.specs.Tables.{Distinct, Absent, Admitted}

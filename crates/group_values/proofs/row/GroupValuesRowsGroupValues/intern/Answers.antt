@@ -1,6 +1,6 @@
 -- A key that is found stays where it is, and another is added while there is room.
-use Rattle.std.proofs.Common.{◌≡◌, ℕ, length, true, Some, None, sym, refl, ap, ◌∙◌, subst, arith}
-use Rattle.std.specs.HashMap.{get, Updates}
+use Rattle.std.proofs.Common.{◌≡◌, length, true, Some, None, sym, refl, ap, ◌∙◌, arith}
+use Rattle.std.specs.HashMap.{get}
 use Rattle.group_values.specs.Places.{key_eq}
 use Rattle.group_values.specs.Rows.{row_keys}
 use Rattle.group_values.specs.Tables.{Absent}
