@@ -1,5 +1,6 @@
 -- The keys of a small table, by the slots that it holds.
-use Rattle.std.specs.Prelude.{◌≡◌, ℕ, ◌<◌, ◌≤◌, [], ◌∷◌, ◌++◌, map, length, get_or, drop, set, Some, None}
+use Rattle.std.specs.Prelude.{◌≡◌, ℕ, ◌<◌, ◌≤◌, [], ◌∷◌, ◌++◌, map, length, get_or, drop, set, Some, None, refl}
+use Rattle.arrayvec.specs.ArrayVec.{array_vec_len}
 use Rattle.std.proofs.Common.{sym, ap, ◌∙◌, subst, arith}
 use Rattle.std.proofs.lemmas.List.{length-map, map_push}
 use Rattle.cells.specs.Emits.{left, dropped}
@@ -16,10 +17,13 @@ module _ (t : GroupValuesSmall) where
   pub small_index : SlotIndex t.slots.items t.places
   small_index = t.indexed
 
-  pub small_length : length (small_keys t) ≡ length t.slots.items
-  small_length = length-map t.slots.items slot_key
+  slots_length : length t.slots.items ≡ array_vec_len t.slots
+  slots_length = refl
 
-  pub within : length t.slots.items ≤ 65
+  pub small_length : length (small_keys t) ≡ array_vec_len t.slots
+  small_length = length-map t.slots.items slot_key ∙ slots_length
+
+  pub within : array_vec_len t.slots ≤ 65
   within = slots_bounded t.slots.items t.places small_index
 
   pub small_bounded : length (small_keys t) ≤ 512
@@ -41,7 +45,7 @@ module _ (t : GroupValuesSmall) where
 
   -- a slot that has no place yet
   module _ (s : ℕ) (below : s < 65) (free : get_or t.places s None ≡ None) where
-    pub small_room : length t.slots.items < 65
+    pub small_room : array_vec_len t.slots < 65
     small_room = slots_room t.slots.items t.places small_index s below free
 
     pub small_keys_push : map slot_key (t.slots.items ++ s ∷ []) ≡ small_keys t ++ slot_key s ∷ []
