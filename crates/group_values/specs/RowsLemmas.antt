@@ -13,18 +13,17 @@ use Rattle.group_values.specs.Tables.{Absent}
 use Rattle.group_values.specs.declared.row_table.GroupValuesRows.{GroupValuesRows}
 use Rattle.group_values.specs.PlacesLemmas.{indexed_push}
 
-module _ (t : GroupValuesRows) where
-  pub row_length : length (row_keys t) ≡ vec_len t.keys
-  row_length = sym t.keys.ok.0
+pub row_length : (t : GroupValuesRows) → length (row_keys t) ≡ vec_len t.keys
+row_length t = sym t.keys.ok.0
 
-  pub row_bounded : length (row_keys t) ≤ 512
-  row_bounded = omega (arith, row_length, t.room.0)
+pub row_bounded : (t : GroupValuesRows) → length (row_keys t) ≤ 512
+row_bounded t = omega (arith, row_length t, t.room.0)
 
-  -- a key that is pushed is found where it stands, and each other where it stood
-  pub row_pushed : (more : List (List CellOf)) (k : List CellOf) (n : ℕ) (places : HashMap (List CellOf) ℕ (BuildHasherDefault FoldHasher)) → more ≡ row_keys t ++ k ∷ []
-      → n ≡ vec_len t.keys → Absent (row_keys t) k → Updates key_eq t.places places k (Some n) → Indexed more places
-  row_pushed more k n places is last absent up =
-      rw is (indexed_push (row_keys t) k t.places places t.indexed absent (subst (λ (m : ℕ). Updates key_eq t.places places k (Some m)) (last ∙ sym row_length) up))
+-- a key that is pushed is found where it stands, and each other where it stood
+pub row_pushed : (t : GroupValuesRows) (more : List (List CellOf)) (k : List CellOf) (n : ℕ) (places : HashMap (List CellOf) ℕ (BuildHasherDefault FoldHasher)) → more ≡ row_keys t ++ k ∷ []
+    → n ≡ vec_len t.keys → Absent (row_keys t) k → Updates key_eq t.places places k (Some n) → Indexed more places
+row_pushed t more k n places is last absent up =
+    rw is (indexed_push (row_keys t) k t.places places t.indexed absent (subst (λ (m : ℕ). Updates key_eq t.places places k (Some m)) (last ∙ sym (row_length t)) up))
 
 pub row_emitted : (e : EmitTo) (ks rotated cut : List (List CellOf)) (held count : ℕ) → held ≡ length ks → count ≡ dropped e held
     → rotated ≡ drop count ks ++ take count ks → cut ≡ take (held - count) rotated → cut ≡ left e ks
