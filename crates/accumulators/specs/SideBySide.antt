@@ -11,9 +11,22 @@ use Rattle.aggregates.specs.declared.aggregate_expr.AggregateExpr.{AggregateExpr
 use Rattle.accumulators.specs.Aggregations.{Aggregation, paired}
 use Rattle.accumulators.specs.Groups.{grown, fed, fed_from, updated, side_by_side}
 
+pub pairs : {S T : Type 0} {s u : S} {t v : T} → s ≡ u → t ≡ v → ◌≡◌ {A = S × T} (s, t) (u, v)
+pairs e f = rw (e, f) refl
+
 module _ {S : Type 0} (e : S) where
+  get_or-replicate_own : (n i : ℕ) → slice_index_or (replicate n e) i e ≡ e
+  get_or-replicate_own zero i = refl
+  get_or-replicate_own (suc n) zero = refl
+  get_or-replicate_own (suc n) (suc i) = get_or-replicate_own n i
+
   get_or-padded : (n : ℕ) (ss : List S) (i : ℕ) → slice_index_or (ss ++ replicate n e) i e ≡ slice_index_or ss i e
-  get_or-padded n ss i = grind (arith, common_steps)
+  get_or-padded n [] i = get_or-replicate_own n i
+  get_or-padded n (s ∷ ss) zero = refl
+  get_or-padded n (s ∷ ss) (suc i) = get_or-padded n ss i
+
+  pub length-grown : (n : ℕ) (ss : List S) → length (grown e n ss) ≡ max n (length ss)
+  length-grown n ss = grind (arith, common_steps)
 
 module _ {S T : Type 0} (e : S) (f : T) where
   pub length-side_by_side : (ss : List S) (ts : List T) → length (side_by_side e f ss ts) ≡ max (length ss) (length ts)
@@ -31,6 +44,9 @@ module _ {S T : Type 0} (e : S) (f : T) where
   get_or-side_by_side (s ∷ ss) (t ∷ ts) zero = refl
   get_or-side_by_side (s ∷ ss) (t ∷ ts) (suc i) = get_or-side_by_side ss ts i
 
+  side_by_side-same : {ss us : List S} {ts vs : List T} → us ≡ ss → vs ≡ ts → side_by_side e f us vs ≡ side_by_side e f ss ts
+  side_by_side-same p q = rw (p, q) refl
+
   -- the length and the elements tell
   side_by_side-is : (ss : List S) (ts : List T) (zs : List (S × T)) → length zs ≡ max (length ss) (length ts)
       → ((i : ℕ) → slice_index_or zs i (e, f) ≡ (slice_index_or ss i e, slice_index_or ts i f)) → side_by_side e f ss ts ≡ zs
@@ -46,7 +62,7 @@ module _ {S T : Type 0} (e : S) (f : T) where
   side_by_side-grown : (n : ℕ) (ss : List S) (ts : List T) → side_by_side e f (grown e n ss) (grown f n ts) ≡ grown (e, f) n (side_by_side e f ss ts)
   side_by_side-grown n ss ts =
       side_by_side-is (grown e n ss) (grown f n ts) (grown (e, f) n (side_by_side e f ss ts))
-      (grind (arith, common_steps, length-side_by_side ss ts))
+      (omega (arith, length-grown e n ss, length-grown f n ts, length-grown (e, f) n (side_by_side e f ss ts), length-side_by_side ss ts))
       (λ i. rw (get_or-padded (e, f) _ (side_by_side e f ss ts) i, get_or-padded e _ ss i, get_or-padded f _ ts i) (get_or-side_by_side ss ts i))
 
   side_by_side-set : (ss : List S) (ts : List T) (i : ℕ) (s : S) (t : T) → i < length ss → i < length ts
@@ -58,8 +74,8 @@ module _ {S T : Type 0} (e : S) (f : T) where
 
   pub side_by_side-left : (to : EmitTo) (ss us : List S) (ts vs : List T) → us ≡ left to ss → vs ≡ left to ts
       → side_by_side e f us vs ≡ left to (side_by_side e f ss ts)
-  side_by_side-left All ss us ts vs p q = rw (p, q) refl
-  side_by_side-left (First n) ss us ts vs p q = rw (p, q) (side_by_side-drop n ss ts)
+  side_by_side-left All ss us ts vs p q = side_by_side-same p q
+  side_by_side-left (First n) ss us ts vs p q = side_by_side-same p q ∙ side_by_side-drop n ss ts
 
 length-fed : {S : Type 0} (a : Aggregation S) (n place : ℕ) (s : S) (ss : List S) → length (fed a n place s ss) ≡ length ss
 length-fed a n place s ss = grind (arith, common_steps)
@@ -90,4 +106,4 @@ module _ {S T : Type 0} (a : Aggregation S) (b : Aggregation T) where
     side_by_side-updated front back places total ss us ts vs first second p q =
         let n = min total 512 in
         rw (p, q, first, second, ← side_by_side-grown a.neutral b.neutral n ss ts)
-        (side_by_side-fed_from places n 0 (grown a.neutral n ss) (grown b.neutral n ts) (grind (arith, common_steps)) (grind (arith, common_steps)))
+        (side_by_side-fed_from places n 0 (grown a.neutral n ss) (grown b.neutral n ts) (omega (arith, length-grown a.neutral n ss)) (omega (arith, length-grown b.neutral n ts)))

@@ -3,6 +3,7 @@ pub mod Refusals
 pub mod Faults
 pub mod Views
 pub mod Emits
+pub mod EmitsLemmas
 pub mod Filled
 pub mod Same
 pub mod Alike

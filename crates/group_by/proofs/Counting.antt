@@ -1,9 +1,16 @@
--- What the counts of the scan say of places that hold the same.
+-- A count goes on by one element, and what counts say of places that hold the same.
 use Rattle.std.proofs.Common.{◌≡◌, ℕ, suc, ◌+◌, ◌<◌, Bool, true, cond, eqb, List, [], ◌∷◌, length, get_or, take, count_by, sym, ap, ◌∙◌, inl, inr, arith}
 use Rattle.std.proofs.lemmas.List.{get_or-take, get_or_default, length-take-le}
-use Rattle.std.proofs.lemmas.List.Sums.{sum_by-cons, get_or-le-sum_by}
+use Rattle.std.proofs.lemmas.List.Sums.{sum_by_more, sum_by-cons, get_or-le-sum_by}
 use Rattle.std.proofs.lemmas.Bool.{eqb-true, eq-eqb, cases_Bool, cases_lt}
-use Rattle.group_by.specs.Counts.{Distinct}
+use Rattle.group_by.specs.Counts.{Counts, Distinct}
+
+pub counts_more : {K : Type 0} (E : K → K → Bool) (xs : List K) (x y : K) (i n m : ℕ) (t : Bool)
+    → i < length xs → y ≡ get_or xs i y → E y x ≡ t → m ≡ n + cond t 1 0
+    → Counts E (take i xs) x n → Counts E (take (i + 1) xs) x m
+counts_more E xs x y i n m t l at is e h =
+    let same : E (get_or xs i y) x ≡ t = rw (← at) is in
+    rw (e, h, ← same) (sym (sum_by_more (λ z. cond (E z x) 1 0) xs i y l))
 
 -- where the count is not 0, some element passes
 some_passes : {X : Type 0} (p : X → Bool) (xs : List X) → 0 < count_by p xs

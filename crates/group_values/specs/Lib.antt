@@ -7,3 +7,4 @@ pub mod PlacesLemmas
 pub mod SlotsLemmas
 pub mod SmallsLemmas
 pub mod TablesLemmas
+pub mod RowsLemmas

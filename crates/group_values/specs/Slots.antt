@@ -27,6 +27,16 @@ Slot key None = small_key key ≡ false
 abbrev pub Below : List ℕ → Type 0
 Below slots = (p : ℕ) → p < length slots → slice_index slots p < 65
 
+-- how many slots have a place
+abbrev pub filled : List (Option ℕ) → ℕ
+filled [] = 0
+filled (None ∷ places) = filled places
+filled (Some p ∷ places) = suc (filled places)
+
+-- each slot may have a place, and as many have one as slots are held
+abbrev pub Counted : List ℕ → List (Option ℕ) → Type 0
+Counted slots places = (length places ≡ 65) × (filled places ≡ length slots)
+
 -- the slot at each place has that place
 abbrev pub Linked : List ℕ → List (Option ℕ) → Type 0
 Linked slots places = (p : ℕ) → p < length slots → slice_index_or places (slice_index slots p) None ≡ Some p
@@ -36,4 +46,4 @@ abbrev pub Leads : List ℕ → List (Option ℕ) → Type 0
 Leads slots places = (s p : ℕ) → slice_index_or places s None ≡ Some p → (p < length slots) × (slice_index slots p ≡ s)
 
 abbrev pub SlotIndex : List ℕ → List (Option ℕ) → Type 0
-SlotIndex slots places = Below slots × (length places ≡ 65) × Linked slots places × Leads slots places
+SlotIndex slots places = Below slots × Counted slots places × Linked slots places × Leads slots places

@@ -1,13 +1,10 @@
 -- The index of the small table: what it says of the keys, and that it stays so when a slot is added.
-use Rattle.std.specs.Prelude.{Bool, ◌||◌, Some, None, Option, eqb, set, ◌≡◌, ℕ, zero, suc, ◌+◌, ◌<◌, ◌≤◌, true, List, [], ◌∷◌, ◌++◌, map, length, get_or, take, drop, replicate, ◌≢◌, slice_index, slice_index_or, refl}
-use Rattle.std.specs.List.{list_any}
-use Rattle.std.proofs.Common.{sym, ap, ◌∙◌, subst, inl, inr, true≢false, arith}
-use Rattle.std.proofs.lemmas.List.{length_push, length-set, length-map, get_or_append_left, get_or_push, get_or-set_same, get_or-set_other, get_or-map, get_or_past, get_or_default, get_or-replicate, get_or-take, get_or-drop, length-drop, length-take-le, take_more}
-use Rattle.std.proofs.lemmas.Bool.{cases_Bool, cases_lt, cases_eq, le-leb, eqb-true}
-use Rattle.std.proofs.lemmas.Map.Keys.{IsDistinct-from_apart}
-use Rattle.std.proofs.lemmas.Map.Steps.{length-le_from_distinct_below}
+use Rattle.std.specs.Prelude.{Some, None, Option, set, ◌≡◌, ℕ, zero, suc, ◌+◌, ◌<◌, ◌≤◌, true, List, [], ◌∷◌, ◌++◌, map, length, get_or, take, drop, replicate, ◌≢◌, slice_index, slice_index_or, refl}
+use Rattle.std.proofs.Common.{sym, ap, ◌∙◌, subst, inl, inr, arith}
+use Rattle.std.proofs.lemmas.List.{length_push, length-set, length-map, get_or_append_left, get_or_push, get_or-set_same, get_or-set_other, get_or-map, get_or_past, get_or-replicate, get_or-take, get_or-drop, length-drop, length-take-le, take_more}
+use Rattle.std.proofs.lemmas.Bool.{cases_lt, cases_eq, le-leb}
 use Rattle.cells.specs.Rows.{CellOf}
-use Rattle.group_values.specs.Slots.{small_key, slot_key, Below, SlotIndex}
+use Rattle.group_values.specs.Slots.{small_key, slot_key, filled, Below, SlotIndex}
 use Rattle.group_values.specs.Tables.{Distinct, Absent, Admitted}
 
 -- ---- the keys of slots
@@ -28,14 +25,24 @@ key_at slots p h = get_or-map slot_key slots p 0 [] h
 pub below_drop : (slots : List ℕ) (n : ℕ) → Below slots → Below (drop n slots)
 below_drop slots n below p h = rw (get_or-drop n slots p 0) (below (n + p) (omega (arith, length-drop n slots)))
 
--- ---- what the index says of the keys
+-- ---- how many slots have a place
 
-below_any : (xs : List ℕ) (q : ℕ) → Below xs → list_any (eqb q) xs ≡ true → q < 65
-below_any [] q below e = absurd (true≢false (sym e))
-below_any (x ∷ xs) q below e = elim (cases_Bool (eqb q x)) [
-  | inl same ↦ let is : q ≡ x = eqb-true q x same in let h : x < 65 = below 0 (omega arith) in omega arith
-  | inr other ↦ below_any xs q (λ p h. below (suc p) (omega arith)) (sym (ap (λ (b : Bool). b || list_any (eqb q) xs) other) ∙ e)
-]
+filled-set : (places : List (Option ℕ)) (s v : ℕ) → s < length places → get_or places s None ≡ None → filled (set places s (Some v)) ≡ filled places + 1
+filled-set [] s v h e = absurd (omega arith)
+filled-set (None ∷ places) zero v h e = omega arith
+filled-set (Some p ∷ places) zero v h e = absurd cc
+filled-set (None ∷ places) (suc s) v h e = filled-set places s v (omega arith) e
+filled-set (Some p ∷ places) (suc s) v h e = omega (arith, filled-set places s v (omega arith) e)
+
+filled-le : (places : List (Option ℕ)) → filled places ≤ length places
+filled-le [] = omega arith
+filled-le (None ∷ places) = omega (arith, filled-le places)
+filled-le (Some p ∷ places) = omega (arith, filled-le places)
+
+filled-lt : (places : List (Option ℕ)) (s : ℕ) → s < length places → get_or places s None ≡ None → filled places < length places
+filled-lt places s h e = omega (arith, filled-set places s 0 h e, filled-le (set places s (Some 0)), length-set places s (Some 0))
+
+-- ---- what the index says of the keys
 
 module _ (slots : List ℕ) (places : List (Option ℕ)) (ix : SlotIndex slots places) where
   abbrev keys : List (List CellOf)
@@ -44,25 +51,14 @@ module _ (slots : List ℕ) (places : List (Option ℕ)) (ix : SlotIndex slots p
   even : length keys ≡ length slots
   even = length-map slots slot_key
 
-  same_place : (i j : ℕ) → i < length slots → j < length slots → slice_index slots i ≡ slice_index slots j → i ≡ j
-  same_place i j li lj e = let is : Some i ≡ Some j = sym (ix.2 i li) ∙ ap (λ (s : ℕ). get_or places s None) e ∙ ix.2 j lj in cc
-
   pub slots_distinct : Distinct keys
   slots_distinct i j l h e =
       let li : i < length slots = omega (arith, even) in
       let lj : j < length slots = omega (arith, even) in
       let same = slot_injective (slice_index slots i) (slice_index slots j) (sym (key_at slots i li) ∙ e ∙ key_at slots j lj) in
-      omega (arith, same_place i j li lj same)
-
-  pub slots_bounded : length slots ≤ 65
-  slots_bounded = length-le_from_distinct_below slots 65
-      (IsDistinct-from_apart eqb slots (λ i j d l h. elim (cases_Bool (eqb (get_or slots i d) (get_or slots j d))) [
-        | inl e ↦
-            let same = sym (get_or_default slots i d 0 (omega arith)) ∙ eqb-true (get_or slots i d) (get_or slots j d) e ∙ get_or_default slots j d 0 h in
-            absurd (omega (arith, same_place i j (omega arith) h same))
-        | inr e ↦ e
-      ]))
-      (λ q h. below_any slots q ix.0 h)
+      let places : Some i ≡ Some j = sym (ix.2 i li) ∙ ap (λ (s : ℕ). get_or places s None) same ∙ ix.2 j lj in
+      let here : i ≡ j = cc in
+      omega arith
 
   pub slots_admitted : Admitted small_key keys
   slots_admitted p h =
@@ -79,6 +75,12 @@ module _ (slots : List ℕ) (places : List (Option ℕ)) (ix : SlotIndex slots p
       let link : Some q ≡ None = sym (ix.2 q l) ∙ ap (λ (t : ℕ). get_or places t None) same ∙ free in
       cc
 
+  pub slots_bounded : length slots ≤ 65
+  slots_bounded = omega (arith, filled-le places, ix.1.0, ix.1.1)
+
+  pub slots_room : (s : ℕ) → s < 65 → get_or places s None ≡ None → length slots < 65
+  slots_room s h free = omega (arith, filled-lt places s (omega (arith, ix.1.0)) free, ix.1.0, ix.1.1)
+
 -- ---- one more slot
 
 none_placed : (s : ℕ) → get_or {A = Option ℕ} (replicate 65 None) s None ≡ None
@@ -90,7 +92,7 @@ none_placed s = elim (cases_lt s 65) [
 pub index_none : SlotIndex [] (replicate 65 None)
 index_none = (
   λ p h. absurd (omega arith),
-  refl,
+  (refl, refl),
   λ p h. absurd (omega arith),
   λ s p h. let z : None ≡ Some p = sym (none_placed s) ∙ h in cc,
 )
@@ -102,8 +104,11 @@ module _ (slots : List ℕ) (places : List (Option ℕ)) (s : ℕ) (ix : SlotInd
   len : length (slots ++ s ∷ []) ≡ n + 1
   len = length_push slots s
 
+  inside : s < length places
+  inside = omega (arith, ix.1.0)
+
   new : get_or (set places s (Some n)) s None ≡ Some n
-  new = get_or-set_same places s (Some n) None (omega (arith, ix.1))
+  new = get_or-set_same places s (Some n) None inside
 
   pub index_push : SlotIndex (slots ++ s ∷ []) (set places s (Some n))
   index_push = (
@@ -111,7 +116,7 @@ module _ (slots : List ℕ) (places : List (Option ℕ)) (s : ℕ) (ix : SlotInd
       | inl l ↦ rw (get_or_append_left slots (s ∷ []) 0 p l) (ix.0 p l)
       | inr g ↦ rw (get_or_push slots s 0 p (omega (arith, len))) below
     ],
-    length-set places s (Some n) ∙ ix.1,
+    (length-set places s (Some n) ∙ ix.1.0, omega (arith, filled-set places s n inside free, ix.1.1, len)),
     λ p h. elim (cases_lt p n) [
       | inl l ↦
           let other : get_or slots p 0 ≢ s = λ e. let link : Some p ≡ None = sym (ix.2 p l) ∙ ap (λ (t : ℕ). get_or places t None) e ∙ free in cc in
@@ -131,10 +136,6 @@ module _ (slots : List ℕ) (places : List (Option ℕ)) (s : ℕ) (ix : SlotInd
     ],
   )
 
-  -- all slots are distinct and below 65, with the new one too
-  pub slots_room : n < 65
-  slots_room = omega (arith, len, slots_bounded (slots ++ s ∷ []) (set places s (Some n)) index_push)
-
 -- the next of a list of distinct slots has no place yet, and is given one
 module _ (slots : List ℕ) (places : List (Option ℕ)) (i : ℕ) (l : i < length slots) (below : Below slots) (apart : Distinct (map slot_key slots))
     (ix : SlotIndex (take i slots) places) where
@@ -149,12 +150,14 @@ module _ (slots : List ℕ) (places : List (Option ℕ)) (i : ℕ) (l : i < leng
       apart q i h (omega (arith, length-map slots slot_key))
       (key_at slots q (omega arith) ∙ ap slot_key (sym (get_or-take i slots q 0 h) ∙ e) ∙ sym (key_at slots i l))
 
-  no_place : (o : Option ℕ) → get_or places s None ≡ o → o ≡ None
-  no_place None e = refl
-  no_place (Some p) e = let at = ix.3 s p e in absurd (not_before p (omega (arith, at.0, so_far)) at.1)
+  no_link : get_or places s None ≡ None
+  no_link = elim (get_or places s None) as (λ o. get_or places s None ≡ o → o ≡ None) [
+    | None ↦ λ e. refl
+    | Some p ↦ λ e. let at = ix.3 s p e in absurd (not_before p (omega (arith, at.0, so_far)) at.1)
+  ] refl
 
   pub index_more : SlotIndex (take (i + 1) slots) (set places s (Some i))
   index_more =
       let here = ap (λ (n : ℕ). set places s (Some n)) so_far in
       subst (λ (xs : List ℕ). SlotIndex xs (set places s (Some i))) (sym (take_more slots i 0 l))
-      (subst (SlotIndex (take i slots ++ s ∷ [])) here (index_push (take i slots) places s ix (below i l) (no_place (get_or places s None) refl)))
+      (subst (SlotIndex (take i slots ++ s ∷ [])) here (index_push (take i slots) places s ix (below i l) no_link))

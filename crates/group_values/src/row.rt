@@ -4,6 +4,7 @@ ghost use Rattle.std.specs.Prelude.{◌≡◌, true, [], IfOk};
 ghost use Rattle.std.proofs.Common.{rules};
 ghost use Rattle.group_values.specs.Rows.{row_keys};
 ghost use Rattle.group_values.specs.PlacesLemmas.{indexed_distinct};
+ghost use Rattle.group_values.specs.RowsLemmas.{row_bounded};
 
 use crate::group_values::GroupValues;
 use crate::places::{add_place, rebuild};
@@ -31,7 +32,7 @@ impl GroupValues for GroupValuesRows {
 
     ghost distinct = { λ t. indexed_distinct (row_keys t) t.places t.indexed };
 
-    ghost bounded = { λ t. t.room.0 };
+    ghost bounded = { row_bounded };
 
     ghost held = { Prim.search rules };
 

@@ -1,8 +1,9 @@
 -- Groups and rows go to wait one after the other.
-use Rattle.std.proofs.Common.{◌≡◌, ℕ, zero, suc, ◌+◌, ◌<◌, ◌≤◌, min, Bool, true, cond, ltb, List, [], ◌∷◌, ◌++◌, length, get_or, take, sym, refl, ap, ◌∙◌, inl, inr, arith}
+use Rattle.std.proofs.Common.{◌≡◌, ℕ, zero, suc, ◌+◌, ◌<◌, min, Bool, true, cond, ltb, List, [], ◌∷◌, ◌++◌, length, get_or, take, sym, refl, ap, ◌∙◌, inl, inr, arith}
 use Rattle.std.proofs.lemmas.List.{take_more, take_all, take-map, length-map, get_or-map}
 use Rattle.std.proofs.lemmas.Bool.{lt-ltb, cases_lt}
 use Rattle.cells.specs.Emits.{dropped}
+use Rattle.cells.specs.EmitsLemmas.{dropped-le}
 use Rattle.cells.specs.declared.emit_to.EmitTo.{EmitTo}
 use Rattle.cells.specs.declared.emit_to.EmitTo.TheVariants.{All, First}
 use Rattle.cells.specs.Rows.{CellOf}
@@ -67,10 +68,6 @@ module _ {S : Type 0} (u : Setup S) where
         e ∙ ap (λ (k : ℕ). take k (out_rows u (held_pairs u g))) c
         ∙ take-least (out_rows u (held_pairs u g)) m (length g.keys) all_length
         ∙ take-map (λ p. out_row u p.0 p.1) m (held_pairs u g)
-
-dropped-le : (to : EmitTo) (n : ℕ) → dropped to n ≤ n
-dropped-le All n = omega arith
-dropped-le (First m) n = omega arith
 
 -- a group below the number that goes out is held
 pub below_held : (to : EmitTo) (n i count : ℕ) → count ≡ dropped to n → i < count → i < n

@@ -61,10 +61,7 @@ impl GroupOrdering {
         if let GroupOrdering::None = self {
             return Some(EmitTo::First(n));
         }
-        match self.emit_to()? {
-            EmitTo::First(finished) => Some(EmitTo::First(n.min(finished))),
-            EmitTo::All => Some(EmitTo::First(n)),
-        }
+        Some(EmitTo::First(self.emit_to()?.count(n)))
     }
 
     /// The first `n` groups are gone, and the others have moved down.

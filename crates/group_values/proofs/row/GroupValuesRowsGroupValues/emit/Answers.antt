@@ -1,12 +1,13 @@
 -- The keys that are left stay distinct, and are indexed anew.
 use Rattle.std.proofs.Common.{◌≡◌, ◌≤◌, List, length, sym, ap, ◌∙◌, subst, arith}
 use Rattle.cells.specs.Emits.{left}
+use Rattle.cells.specs.EmitsLemmas.{length-left}
 use Rattle.cells.specs.Rows.{CellOf}
 use Rattle.group_values.specs.Places.{Indexed}
 use Rattle.group_values.specs.Rows.{row_keys}
 use Rattle.group_values.specs.Tables.{Distinct}
 use Rattle.group_values.specs.PlacesLemmas.{indexed_distinct}
-use Rattle.group_values.specs.TablesLemmas.{distinct-left, length-left}
+use Rattle.group_values.specs.TablesLemmas.{distinct-left}
 use Rattle.group_values.proofs.row.GroupValuesRowsGroupValues.emit.Goals as goal
 
 pub rebuild-requires : goal.rebuild-requires

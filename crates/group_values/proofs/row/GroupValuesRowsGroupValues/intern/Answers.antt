@@ -1,10 +1,11 @@
 -- A key that is found stays where it is, and another is added while there is room.
-use Rattle.std.proofs.Common.{◌≡◌, ℕ, length, true, Some, None, sym, refl, ap, ◌∙◌, subst, arith}
-use Rattle.std.specs.HashMap.{get, Updates}
+use Rattle.std.proofs.Common.{◌≡◌, length, true, Some, None, sym, refl, ap, ◌∙◌, arith}
+use Rattle.std.specs.HashMap.{get}
 use Rattle.group_values.specs.Places.{key_eq}
 use Rattle.group_values.specs.Rows.{row_keys}
 use Rattle.group_values.specs.Tables.{Absent}
-use Rattle.group_values.specs.PlacesLemmas.{indexed_distinct, indexed_absent, indexed_push}
+use Rattle.group_values.specs.PlacesLemmas.{indexed_distinct, indexed_absent}
+use Rattle.group_values.specs.RowsLemmas.{row_pushed}
 use Rattle.group_values.specs.TablesLemmas.{interns_found, interns_new, interns_full}
 use Rattle.group_values.proofs.row.GroupValuesRowsGroupValues.intern.Goals as goal
 use Rattle.group_values.proofs.row.GroupValuesRowsGroupValues.intern.Goals.{In_default, at-returns-then-place-ge-MAX_GROUPS, at-add_place-requires, at-invariant_of-self-clause-indexed, at-returns}
@@ -33,11 +34,7 @@ add_place-requires c = (free (at-add_place-requires c).In_default, omega arith)
 
 pub invariant_of-self-clause-indexed : goal.invariant_of-self-clause-indexed
 invariant_of-self-clause-indexed c =
-    let t = c.args.self.now in
-    let last : c.len-place.result ≡ length (row_keys t) = omega arith in
-    rw c.push_reserved.ensures.items
-    (indexed_push (row_keys t) c.args.key.now t.places c.add_place.new.places t.indexed (absent (at-invariant_of-self-clause-indexed c).In_default)
-    (subst (λ (n : ℕ). Updates key_eq t.places c.add_place.new.places c.args.key.now (Some n)) last c.add_place.ensures.updates))
+    row_pushed c.args.self.now _ c.args.key.now c.len-place.result c.add_place.new.places c.push_reserved.ensures.items (omega arith) (absent (at-invariant_of-self-clause-indexed c).In_default) c.add_place.ensures.updates
 
 pub returns : goal.returns
 returns c =

@@ -4,8 +4,7 @@ use Rattle.std.proofs.lemmas.List.{length-drop}
 use Rattle.cells.specs.Emits.{dropped}
 use Rattle.group_values.specs.Slots.{Below, SlotIndex, slot_key}
 use Rattle.group_values.specs.Tables.{Distinct}
-use Rattle.group_values.specs.SlotsLemmas.{below_drop, slots_bounded}
-use Rattle.group_values.specs.SmallsLemmas.{small_left, left_distinct}
+use Rattle.group_values.specs.SmallsLemmas.{within, small_emitted, emitted_below, emitted_distinct}
 use Rattle.group_values.proofs.small.GroupValuesSmallGroupValues.emit.Goals as goal
 
 pub places_of-self-requires : goal.places_of-self-requires
@@ -13,10 +12,10 @@ places_of-self-requires c =
     let t = c.args.self.now in
     let drops : c.count-count.result ≡ dropped c.args.emit_to (length t.slots.items) = c.count-count.ensures ∙ ap (dropped c.args.emit_to) c.len.ensures.value in
     let is : c.deref.result.now ≡ drop c.count-count.result t.slots.items = c.deref.ensures.0 ∙ c.drop-drain.ensures (omega arith) ∙ c.drain.ensures.kept in (
-      omega (arith, ap length is, length-drop c.count-count.result t.slots.items, slots_bounded t.slots.items t.places t.indexed),
+      omega (arith, ap length is, length-drop c.count-count.result t.slots.items, within t),
       (
-        subst Below (sym is) (below_drop t.slots.items c.count-count.result t.indexed.0),
-        subst (λ (slots : List ℕ). Distinct (map slot_key slots)) (sym is) (left_distinct t c.args.emit_to c.count-count.result drops),
+        subst Below (sym is) (emitted_below t c.args.emit_to c.count-count.result drops),
+        subst (λ (slots : List ℕ). Distinct (map slot_key slots)) (sym is) (emitted_distinct t c.args.emit_to c.count-count.result drops),
       ),
     )
 
@@ -29,4 +28,4 @@ pub returns : goal.returns
 returns c =
     let t = c.args.self.now in
     let drops : c.count-count.result ≡ dropped c.args.emit_to (length t.slots.items) = c.count-count.ensures ∙ ap (dropped c.args.emit_to) c.len.ensures.value in
-    ap (map slot_key) (c.drop-drain.ensures (omega arith) ∙ c.drain.ensures.kept) ∙ small_left t c.args.emit_to c.count-count.result drops
+    ap (map slot_key) (c.drop-drain.ensures (omega arith) ∙ c.drain.ensures.kept) ∙ small_emitted t c.args.emit_to c.count-count.result drops

@@ -1,11 +1,10 @@
 -- A key without a slot stays out, a slot with a place is found, and one without is added.
 use Rattle.std.proofs.Common.{◌<◌, [], ◌∷◌, ◌++◌, map, length, Some, sym, ap, ◌∙◌, subst, arith}
-use Rattle.std.proofs.lemmas.List.{map_push}
 use Rattle.group_values.specs.Slots.{slot_key, small_key}
 use Rattle.group_values.specs.Smalls.{small_keys}
 use Rattle.group_values.specs.Tables.{Absent}
-use Rattle.group_values.specs.SlotsLemmas.{slot_small, slots_distinct, slots_admitted, slots_found, slots_absent, slots_room, index_push}
-use Rattle.group_values.specs.SmallsLemmas.{small_length}
+use Rattle.group_values.specs.SlotsLemmas.{slot_small, slots_distinct, slots_admitted, slots_found, slots_absent}
+use Rattle.group_values.specs.SmallsLemmas.{small_length, small_room, small_keys_push, small_index_push}
 use Rattle.group_values.specs.TablesLemmas.{absent_out, interns_found, interns_new, interns_out}
 use Rattle.group_values.proofs.small.GroupValuesSmallGroupValues.intern.Goals as goal
 
@@ -28,15 +27,12 @@ returns-in-Some c =
 pub push-requires : goal.push-requires
 push-requires c =
     let t = c.args.self.now in
-    (omega arith, slots_room t.slots.items t.places c.in_ok-slot.slot t.indexed c.in_ok-slot.ensures.0 c.in_default.is)
+    (omega arith, small_room t c.in_ok-slot.slot c.in_ok-slot.ensures.0 c.in_default.is)
 
 pub invariant_of-self : goal.invariant_of-self
 invariant_of-self c =
     let t = c.args.self.now in
-    record {
-      indexed = rw (c.push.ensures.items, c.len-place.ensures.value)
-          (index_push t.slots.items t.places c.in_ok-slot.slot t.indexed c.in_ok-slot.ensures.0 c.in_default.is);
-    }
+    record { indexed = rw (c.push.ensures.items, c.len-place.ensures.value) (small_index_push t c.in_ok-slot.slot c.in_ok-slot.ensures.0 c.in_default.is) }
 
 pub returns : goal.returns
 returns c =
@@ -44,13 +40,13 @@ returns c =
     let s = c.in_ok-slot.slot in
     let same = c.in_ok-slot.ensures.1 in
     let absent = subst (Absent (small_keys t)) (sym same) (slots_absent t.slots.items t.places t.indexed s c.in_default.is) in
-    let room = slots_room t.slots.items t.places s t.indexed c.in_ok-slot.ensures.0 c.in_default.is in
+    let room = small_room t s c.in_ok-slot.ensures.0 c.in_default.is in
     let few : length (small_keys t) < 512 = omega (arith, small_length t, room) in
     let i = interns_new small_key (small_keys t) c.args.key.now absent (ap small_key same ∙ slot_small s c.in_ok-slot.ensures.0) few in
     record {
       answer = ap Some (c.len-place.ensures.value ∙ sym (small_length t)) ∙ sym i.0;
       after = ap (map slot_key) c.push.ensures.items
-          ∙ map_push slot_key t.slots.items s
+          ∙ small_keys_push t s c.in_ok-slot.ensures.0 c.in_default.is
           ∙ ap (λ k. small_keys t ++ k ∷ []) (sym same)
           ∙ sym i.1;
     }
