@@ -1,6 +1,5 @@
 pub mod Rows
 pub mod Flags
-pub mod Alike
 pub mod Same
 pub mod Filled
 pub mod Pushing

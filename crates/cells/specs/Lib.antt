@@ -5,3 +5,4 @@ pub mod Views
 pub mod Emits
 pub mod Filled
 pub mod Same
+pub mod Alike

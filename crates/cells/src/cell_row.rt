@@ -3,6 +3,7 @@
 ghost use Rattle.std.specs.Prelude.{◌≡◌, ◌≤◌, [], ◌∷◌, ◌++◌, length, take, None, Decides, slice_index_or};
 
 use crate::batch::Cell;
+use std::hash::{Hash, Hasher};
 use std::marker::Model;
 
 /// At most `N` cells. They lie in an array, so that a row needs no heap and can be copied.
@@ -114,4 +115,19 @@ impl<const N: usize> Eq for CellRow<N> {
     ghost use Rattle.std.proofs.Common.{rules};
 
     ghost laws = { Prim.search (comparing, rules) };
+}
+
+// Equal rows are hashed alike: the cells, and not the unused places.
+impl<const N: usize> Hash for CellRow<N> {
+    ghost use Rattle.std.specs.Hash.{same_Alike};
+    ghost use Rattle.std.specs.Hash as fed;
+    ghost use Rattle.cells.specs.Alike.{cells_decide};
+
+    ghost hash_input = { fed.slice (fed.option fed.i64) };
+
+    ghost respects_eq = { (same_Alike (fed.slice (fed.option fed.i64)) cells_decide).fed };
+
+    fn hash<H: Hasher>(&self, state: &mut H) {
+        self.as_slice().hash(state);
+    }
 }

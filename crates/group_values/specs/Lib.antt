@@ -1,11 +1,9 @@
 pub mod Tables
-pub mod Buckets
-pub mod Chains
+pub mod Places
 pub mod Rows
 pub mod Slots
 pub mod Smalls
-pub mod RowsLemmas
-pub mod Emits
+pub mod PlacesLemmas
 pub mod SlotsLemmas
 pub mod SmallsLemmas
 pub mod TablesLemmas

@@ -1,5 +1,5 @@
 -- The keys of one small cell, the slot of each, and the index by slot. Assumes nothing.
-use Rattle.std.specs.Prelude.{◌≡◌, ℕ, zero, suc, ◌+◌, ◌-◌, ◌<◌, ◌≤◌, min, Bool, true, false, List, [], ◌∷◌, length, pos, negsuc, Some, None, Option, nat_le, slice_index}
+use Rattle.std.specs.Prelude.{◌≡◌, ℕ, zero, suc, ◌<◌, Bool, true, false, List, [], ◌∷◌, length, pos, negsuc, Some, None, Option, nat_le, slice_index, slice_index_or}
 use Rattle.cells.specs.Rows.{CellOf}
 
 -- absent, or 0 to 63
@@ -24,25 +24,16 @@ abbrev pub Slot : List CellOf → Option ℕ → Type 0
 Slot key (Some s) = (s < 65) × (key ≡ slot_key s)
 Slot key None = small_key key ≡ false
 
--- how many links are not 0
-abbrev pub filled : List ℕ → ℕ
-filled [] = 0
-filled (l ∷ links) = min l 1 + filled links
-
 abbrev pub Below : List ℕ → Type 0
 Below slots = (p : ℕ) → p < length slots → slice_index slots p < 65
 
--- each slot has a link, and as many links as slots are held are not 0
-abbrev pub Counted : List ℕ → List ℕ → Type 0
-Counted slots links = (length links ≡ 65) × (filled links ≡ length slots)
+-- the slot at each place has that place
+abbrev pub Linked : List ℕ → List (Option ℕ) → Type 0
+Linked slots places = (p : ℕ) → p < length slots → slice_index_or places (slice_index slots p) None ≡ Some p
 
--- the link of the slot at a place is one more than the place
-abbrev pub Linked : List ℕ → List ℕ → Type 0
-Linked slots links = (p : ℕ) → p < length slots → slice_index links (slice_index slots p) ≡ p + 1
+-- a slot that has a place stands there
+abbrev pub Leads : List ℕ → List (Option ℕ) → Type 0
+Leads slots places = (s p : ℕ) → slice_index_or places s None ≡ Some p → (p < length slots) × (slice_index slots p ≡ s)
 
--- a link that is not 0 leads to a place, which holds the slot
-abbrev pub Leads : List ℕ → List ℕ → Type 0
-Leads slots links = (s : ℕ) → 0 < slice_index links s → (slice_index links s ≤ length slots) × (slice_index slots (slice_index links s - 1) ≡ s)
-
-abbrev pub SlotIndex : List ℕ → List ℕ → Type 0
-SlotIndex slots links = Below slots × Counted slots links × Linked slots links × Leads slots links
+abbrev pub SlotIndex : List ℕ → List (Option ℕ) → Type 0
+SlotIndex slots places = Below slots × (length places ≡ 65) × Linked slots places × Leads slots places

@@ -1,9 +1,7 @@
 -- The keys that a table holds, and what it is to intern one more. Assumes nothing.
-use Rattle.std.specs.Prelude.{◌≡◌, ℕ, suc, ◌<◌, min, Bool, true, cond, ◌&&◌, List, [], ◌∷◌, ◌++◌, length, Some, None, Option, ◌≢◌, nat_lt, slice_index_or}
+use Rattle.std.specs.Prelude.{◌≡◌, ℕ, suc, ◌<◌, Bool, true, cond, ◌&&◌, List, [], ◌∷◌, ◌++◌, length, Some, None, Option, ◌≢◌, nat_lt, slice_index_or}
 use Rattle.cells.specs.Rows.{CellOf}
 use Rattle.cells.specs.Same.{same_key}
-use Rattle.cells.specs.declared.emit_to.EmitTo.{EmitTo}
-use Rattle.cells.specs.declared.emit_to.EmitTo.TheVariants.{All, First}
 
 -- the place of the first equal key, or how many keys there are
 abbrev pub place_of : List (List CellOf) → List CellOf → ℕ
@@ -37,8 +35,3 @@ Absent keys key = (q : ℕ) → q < length keys → slice_index_or keys q [] ≢
 -- each key held is admitted
 abbrev pub Admitted : (List CellOf → Bool) → List (List CellOf) → Type 0
 Admitted admitted keys = (i : ℕ) → i < length keys → admitted (slice_index_or keys i []) ≡ true
-
--- how many of n keys an emission drops
-abbrev pub dropped : EmitTo → ℕ → ℕ
-dropped All n = n
-dropped (First m) n = min m n

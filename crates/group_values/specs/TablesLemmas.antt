@@ -1,9 +1,9 @@
 -- What interning does, from where a key was found or that no place holds it; and what keeps keys distinct.
-use Rattle.std.specs.Prelude.{◌≡◌, ℕ, zero, suc, ◌+◌, ◌<◌, ◌≤◌, Bool, true, false, cond, List, [], ◌∷◌, ◌++◌, length, get_or, drop, Some, None, Option, ◌≢◌, nat_lt, slice_index_or, refl}
+use Rattle.std.specs.Prelude.{min, ◌≡◌, ℕ, zero, suc, ◌+◌, ◌<◌, ◌≤◌, Bool, true, false, cond, List, [], ◌∷◌, ◌++◌, length, get_or, drop, Some, None, Option, ◌≢◌, nat_lt, slice_index_or, refl}
 use Rattle.std.proofs.Common.{sym, ap, ◌∙◌, inl, inr, true≢false, arith}
-use Rattle.std.proofs.lemmas.List.{length_push, length-drop, get_or_append_left, get_or_push, get_or-drop}
+use Rattle.std.proofs.lemmas.List.{length_push, length-drop, get_or_append_left, get_or_push, get_or-drop, drop_all}
 use Rattle.std.proofs.lemmas.Bool.{cases_Bool, cases_lt, lt-ltb, le-ltb, and_from, and_left, and_right}
-use Rattle.cells.specs.Emits.{left}
+use Rattle.cells.specs.Emits.{left, dropped}
 use Rattle.cells.specs.Rows.{CellOf}
 use Rattle.cells.specs.Same.{same_key}
 use Rattle.cells.specs.declared.emit_to.EmitTo.{EmitTo}
@@ -93,3 +93,14 @@ distinct-drop keys n d i j l h e =
 pub distinct-left : (e : EmitTo) (keys : List (List CellOf)) → Distinct keys → Distinct (left e keys)
 distinct-left All keys d = distinct_none
 distinct-left (First n) keys d = distinct-drop keys n d
+
+pub left-drop : {X : Type 0} (e : EmitTo) (xs : List X) → left e xs ≡ drop (dropped e (length xs)) xs
+left-drop All xs = sym (drop_all (length xs) xs (omega arith))
+left-drop (First n) xs = elim (cases_lt n (length xs)) [
+  | inl h ↦ let m : n ≡ min n (length xs) = omega arith in ap (λ (k : ℕ). drop k xs) m
+  | inr h ↦ drop_all n xs h ∙ sym (drop_all (min n (length xs)) xs (omega arith))
+]
+
+pub length-left : {X : Type 0} (e : EmitTo) (xs : List X) → length (left e xs) ≤ length xs
+length-left All xs = omega arith
+length-left (First n) xs = omega (arith, length-drop n xs)

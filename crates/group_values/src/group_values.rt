@@ -4,9 +4,8 @@
 
 ghost use Rattle.std.specs.Prelude.{◌≡◌, ◌≤◌, Bool, List, [], length, ◌==◌, slice_index_or};
 ghost use Rattle.cells.specs.Rows.{CellOf};
-ghost use Rattle.cells.specs.Keys.{key_cells};
 ghost use Rattle.cells.specs.Emits.{left};
-ghost use Rattle.group_values.specs.Tables.{Distinct, Admitted, dropped, interned, placed};
+ghost use Rattle.group_values.specs.Tables.{Distinct, Admitted, interned, placed};
 
 use cells::{EmitTo, Key};
 
@@ -20,12 +19,12 @@ pub trait GroupValues {
 
     /// Whether the table takes in the key: a matter of the kind of table and the key alone.
     fn admits(&self, key: &Key) -> bool
-        ensures { result ≡ admitted (key_cells key.now) };
+        ensures { result ≡ admitted key.now };
 
     /// The place of the key, which is added if it is new; none if it stays out.
     fn intern(&mut self, key: &Key) -> Option<usize>
-        ensures answer { result ≡ placed admitted (keys self.old) (key_cells key.now) }
-        ensures after { keys self.new ≡ interned admitted (keys self.old) (key_cells key.now) };
+        ensures answer { result ≡ placed admitted (keys self.old) key.now }
+        ensures after { keys self.new ≡ interned admitted (keys self.old) key.now };
 
     /// How many keys are held.
     fn len(&self) -> usize
@@ -40,7 +39,7 @@ pub trait GroupValues {
 
     /// The key at a place; the key of no cells past the last.
     fn key(&self, place: usize) -> Key
-        ensures { key_cells result ≡ slice_index_or (keys self.now) place [] };
+        ensures { result ≡ slice_index_or (keys self.now) place [] };
 
     /// Drops all keys or the first so many; the rest move down.
     fn emit(&mut self, emit_to: EmitTo)
@@ -51,14 +50,4 @@ pub trait GroupValues {
     ghost bounded: { (s : Self) → length (keys s) ≤ 512 };
 
     ghost held: { (s : Self) → Admitted admitted (keys s) };
-}
-
-/// How many of the keys held an emission drops.
-pub(crate) fn drop_count(emit_to: EmitTo, held: usize) -> usize
-    ensures { result ≡ dropped emit_to held }
-{
-    match emit_to {
-        EmitTo::All => held,
-        EmitTo::First(n) => n.min(held),
-    }
 }

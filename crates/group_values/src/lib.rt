@@ -4,9 +4,8 @@
 
 #![tactic(auto)]
 
-mod chain;
 mod group_values;
-mod hash;
+mod places;
 mod row;
 mod row_table;
 mod slot;

@@ -1,28 +1,25 @@
 //! The calls of the row table, which has the part of src/aggregates/group_values/row.rs in datafusion-physical-plan 55.0.0.
 
 ghost use Rattle.std.specs.Prelude.{◌≡◌, true, [], IfOk};
-ghost use Rattle.group_values.specs.Rows.{row_keys};
 ghost use Rattle.std.proofs.Common.{rules};
-ghost use Rattle.group_values.specs.RowsLemmas.{row_bounded};
+ghost use Rattle.group_values.specs.Rows.{row_keys};
+ghost use Rattle.group_values.specs.PlacesLemmas.{indexed_distinct};
 
-use crate::chain::{add_link, find, rebuild};
-use crate::group_values::{GroupValues, drop_count};
-use crate::hash::{BUCKETS, bucket};
+use crate::group_values::GroupValues;
+use crate::places::{add_place, rebuild};
 use crate::row_table::GroupValuesRows;
 use cells::{EmitTo, Key, MAX_GROUPS};
 use std::alloc::{AllocError, Global};
+use std::collections::HashMap;
 
 impl GroupValuesRows {
     /// A table of no keys, with room for all that it may ever hold.
     pub fn new(heap: Global) -> Result<GroupValuesRows, AllocError>
         ensures { IfOk result (λ t. row_keys t ≡ []) }
     {
-        let keys = Vec::with_capacity(heap, MAX_GROUPS)?;
-        let next = Vec::with_capacity(heap, MAX_GROUPS)?;
         Ok(GroupValuesRows {
-            keys,
-            heads: [0; BUCKETS],
-            next,
+            keys: Vec::with_capacity(heap, MAX_GROUPS)?,
+            places: HashMap::with_capacity(heap, MAX_GROUPS)?,
         })
     }
 }
@@ -32,9 +29,9 @@ impl GroupValues for GroupValuesRows {
 
     ghost admitted = { λ _. true };
 
-    ghost distinct = { λ t. t.apart };
+    ghost distinct = { λ t. indexed_distinct (row_keys t) t.places t.indexed };
 
-    ghost bounded = { row_bounded };
+    ghost bounded = { λ t. t.room.0 };
 
     ghost held = { Prim.search rules };
 
@@ -43,15 +40,15 @@ impl GroupValues for GroupValuesRows {
     }
 
     fn intern(&mut self, key: &Key) -> Option<usize> {
-        if let Some(place) = find(&self.keys, &self.heads, &self.next, key) {
+        if let Some(place) = self.places.get(key).copied() {
             return Some(place);
         }
         let place = self.keys.len();
         if place >= MAX_GROUPS {
             return None;
         }
-        add_link(&mut self.heads, &mut self.next, bucket(key));
         self.keys.push_reserved(*key);
+        add_place(&mut self.places, key, place);
         Some(place)
     }
 
@@ -60,18 +57,11 @@ impl GroupValues for GroupValuesRows {
     }
 
     fn key(&self, place: usize) -> Key {
-        if place < self.keys.len() {
-            self.keys[place]
-        } else {
-            Key::new()
-        }
+        self.keys.get(place).copied().unwrap_or(Key::new())
     }
 
     fn emit(&mut self, emit_to: EmitTo) {
-        let held = self.keys.len();
-        let count = drop_count(emit_to, held);
-        self.keys.rotate_left(count);
-        self.keys.truncate(held - count);
-        rebuild(&self.keys, &mut self.heads, &mut self.next);
+        emit_to.shift(&mut self.keys);
+        rebuild(&mut self.places, &self.keys);
     }
 }

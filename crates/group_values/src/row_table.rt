@@ -1,21 +1,17 @@
 //! The row table, with what ties its parts.
 
-ghost use Rattle.std.specs.Prelude.{◌≤◌, map, vec_len, vec_capacity};
-ghost use Rattle.cells.specs.Keys.{key_cells};
-ghost use Rattle.group_values.specs.Tables.{Distinct};
-ghost use Rattle.group_values.specs.Chains.{Indexed};
+ghost use Rattle.std.specs.Prelude.{◌≤◌, length, vec_capacity};
+ghost use Rattle.group_values.specs.Places.{Indexed, Roomy};
 
 use cells::Key;
+use std::collections::HashMap;
 
 /// Admits every key, and finds it by a hash that equal keys share.
 #[derive(Drop)]
 pub struct GroupValuesRows {
     pub(crate) keys: Vec<Key>,
-    /// The last place of each bucket, as a link.
-    pub(crate) heads: [u16; 1024],
-    /// The place before each place in its bucket, as a link.
-    pub(crate) next: Vec<u16>,
-    ghost apart: { Distinct (map key_cells keys.items) },
-    ghost indexed: { Indexed (map key_cells keys.items) heads next.items },
-    ghost room: { (vec_len keys ≤ 512) × (512 ≤ vec_capacity keys) × (512 ≤ vec_capacity next) },
+    /// The place of each key. An `IndexMap` would hold both, but its `drain` does not keep the room that `new` made.
+    pub(crate) places: HashMap<Key, usize>,
+    ghost indexed: { Indexed keys.items places },
+    ghost room: { (length keys.items ≤ 512) × (512 ≤ vec_capacity keys) × Roomy keys.items places },
 }

@@ -1,7 +1,6 @@
 //! The index of the small table: a slot for each key that it admits.
 
 ghost use Rattle.std.specs.Prelude.{◌≡◌, ◌≤◌, map, length};
-ghost use Rattle.cells.specs.Keys.{key_cells};
 ghost use Rattle.group_values.specs.Slots.{Below, Slot, SlotIndex, slot_key};
 ghost use Rattle.group_values.specs.Tables.{Distinct};
 
@@ -12,7 +11,7 @@ pub(crate) const SLOTS: usize = 65;
 
 /// The slot of a key that the small table admits.
 pub(crate) fn slot_of(key: &Key) -> Option<usize>
-    ensures { Slot (key_cells key.now) result }
+    ensures { Slot key.now result }
 {
     match key.as_slice() {
         [None] => Some(0),
@@ -23,25 +22,21 @@ pub(crate) fn slot_of(key: &Key) -> Option<usize>
 
 /// The key of a slot.
 pub(crate) fn slot_key(slot: u8) -> Key
-    ensures { key_cells result ≡ slot_key slot }
+    ensures { result ≡ slot_key slot }
 {
     let mut key = Key::new();
-    if slot == 0 {
-        key.push(None);
-    } else {
-        key.push(Some(i64::from(slot - 1)));
-    }
+    key.push(slot.checked_sub(1).map(i64::from));
     key
 }
 
-/// The link of each slot: 0, or one more than its place.
-pub(crate) fn links_of(slots: &[u8]) -> [u8; 65]
+/// The place of each slot, if it is held.
+pub(crate) fn places_of(slots: &[u8]) -> [Option<u8>; 65]
     requires { (length slots.now ≤ 65) × ((Below slots.now) × (Distinct (map slot_key slots.now))) }
     ensures { SlotIndex slots.now result }
 {
-    let mut links = [0; SLOTS];
+    let mut places = [None; SLOTS];
     for (place, slot) in slots.iter().enumerate() {
-        links[*slot as usize] = place as u8 + 1;
+        places[usize::from(*slot)] = Some(place as u8);
     }
-    links
+    places
 }

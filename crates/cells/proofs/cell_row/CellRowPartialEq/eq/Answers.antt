@@ -1,4 +1,4 @@
-use Rattle.cells.proofs.Alike.{cells_decide}
+use Rattle.cells.specs.Alike.{cells_decide}
 use Rattle.cells.proofs.cell_row.CellRowPartialEq.eq.Goals as goal
 
 pub returns-clause-decides : goal.returns-clause-decides

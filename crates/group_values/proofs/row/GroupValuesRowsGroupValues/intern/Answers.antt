@@ -1,65 +1,47 @@
 -- A key that is found stays where it is, and another is added while there is room.
-use Rattle.std.proofs.Common.{◌≡◌, ◌<◌, ◌≤◌, true, List, map, length, Some, vec_items, vec_len, sym, refl, ap, ◌∙◌, subst, arith}
-use Rattle.cells.specs.Keys.{key_cells}
-use Rattle.cells.specs.declared.key.Key.{Key}
-use Rattle.group_values.specs.Chains.{Found}
+use Rattle.std.proofs.Common.{◌≡◌, ℕ, length, true, Some, None, sym, refl, ap, ◌∙◌, subst, arith}
+use Rattle.std.specs.HashMap.{get, Updates}
+use Rattle.group_values.specs.Places.{key_eq}
 use Rattle.group_values.specs.Rows.{row_keys}
-use Rattle.group_values.specs.Tables.{Absent, Distinct}
-use Rattle.group_values.proofs.Chains.{heads_length, next_length, indexed_push}
-use Rattle.group_values.specs.RowsLemmas.{row_length, row_pushed}
-use Rattle.group_values.specs.TablesLemmas.{interns_found, interns_new, interns_full, distinct_push}
+use Rattle.group_values.specs.Tables.{Absent}
+use Rattle.group_values.specs.PlacesLemmas.{indexed_distinct, indexed_absent, indexed_push}
+use Rattle.group_values.specs.TablesLemmas.{interns_found, interns_new, interns_full}
 use Rattle.group_values.proofs.row.GroupValuesRowsGroupValues.intern.Goals as goal
-use Rattle.group_values.proofs.row.GroupValuesRowsGroupValues.intern.Goals.{In_default, at-returns-then-place-ge-MAX_GROUPS, at-invariant_of-self-2, at-returns}
+use Rattle.group_values.proofs.row.GroupValuesRowsGroupValues.intern.Goals.{In_default, at-returns-then-place-ge-MAX_GROUPS, at-add_place-requires, at-invariant_of-self-clause-indexed, at-returns}
 
-absent : (c : In_default) → Absent (row_keys c.args.self.now) (key_cells c.args.key.now)
-absent c = subst (λ (ks : List Key). Absent (map key_cells ks) (key_cells c.args.key.now)) c.deref.ensures.value c.in_default.ensures
+free : (c : In_default) → get key_eq c.args.self.now.places c.args.key.now ≡ None
+free c = sym c.get.ensures.value ∙ sym c.copied.ensures ∙ c.in_default.is
+
+absent : (c : In_default) → Absent (row_keys c.args.self.now) c.args.key.now
+absent c = indexed_absent (row_keys c.args.self.now) c.args.self.now.places c.args.self.now.indexed c.args.key.now (free c)
 
 pub returns-in-Some : goal.returns-in-Some
 returns-in-Some c =
     let t = c.args.self.now in
-    let key = key_cells c.args.key.now in
-    let found = subst (λ (ks : List Key). Found (map key_cells ks) key (Some c.in-Some.place)) c.deref.ensures.value c.in-Some.ensures in
-    let i = interns_found (λ _. true) (row_keys t) key c.in-Some.place t.apart found.0 found.1 in
+    let at : get key_eq t.places c.args.key.now ≡ Some c.in-Some.place = sym c.get.ensures.value ∙ sym c.copied.ensures ∙ c.in-Some.is in
+    let found = t.indexed.1 c.args.key.now c.in-Some.place at in
+    let i = interns_found (λ _. true) (row_keys t) c.args.key.now c.in-Some.place (indexed_distinct (row_keys t) t.places t.indexed) found.0 found.1 in
     record { answer = sym i.0; after = sym i.1 }
 
 pub returns-then-place-ge-MAX_GROUPS : goal.returns-then-place-ge-MAX_GROUPS
 returns-then-place-ge-MAX_GROUPS c =
-    let t = c.args.self.now in
-    let full : 512 ≤ length (row_keys t) = omega (arith, row_length t, c.len-place.ensures, c.if-place-ge-MAX_GROUPS.true) in
-    let i = interns_full (λ _. true) (row_keys t) (key_cells c.args.key.now) (absent (at-returns-then-place-ge-MAX_GROUPS c).In_default) full in
+    let i = interns_full (λ _. true) (row_keys c.args.self.now) c.args.key.now (absent (at-returns-then-place-ge-MAX_GROUPS c).In_default) (omega arith) in
     record { answer = sym i.0; after = sym i.1 }
 
-pub add_link-requires : goal.add_link-requires
-add_link-requires c =
-    let t = c.args.self.now in
-    let heads = heads_length (row_keys t) t.heads (vec_items t.next) t.indexed in
-    let next = next_length (row_keys t) t.heads (vec_items t.next) t.indexed in
-    let few : vec_len t.next < 512 = omega (arith, next, row_length t, t.next.ok.0, c.len-place.ensures, c.if-place-ge-MAX_GROUPS.false) in
-    (omega (arith, heads, c.bucket.ensures.bound), (omega (arith, few, t.room.2), few))
+pub add_place-requires : goal.add_place-requires
+add_place-requires c = (free (at-add_place-requires c).In_default, omega arith)
 
-pub invariant_of-self-2 : goal.invariant_of-self-2
-invariant_of-self-2 c =
+pub invariant_of-self-clause-indexed : goal.invariant_of-self-clause-indexed
+invariant_of-self-clause-indexed c =
     let t = c.args.self.now in
-    let key = key_cells c.args.key.now in
-    let pushed = row_pushed (vec_items t.keys) (vec_items c.push_reserved.new.self) c.args.key.now c.push_reserved.ensures.items in
-    record {
-      apart = subst Distinct (sym pushed) (distinct_push (row_keys t) key t.apart (absent (at-invariant_of-self-2 c).In_default));
-      indexed = indexed_push (row_keys t) (map key_cells (vec_items c.push_reserved.new.self)) key c.bucket.result (vec_len t.next) t.heads
-          (vec_items t.next) c.add_link.new.heads (vec_items c.add_link.new.next) pushed
-          c.bucket.ensures.is t.next.ok.0 c.add_link.ensures.heads c.add_link.ensures.next t.indexed;
-      room = (
-        omega (arith, c.push_reserved.ensures.len, c.len-place.ensures, c.if-place-ge-MAX_GROUPS.false),
-        omega (arith, c.push_reserved.ensures.capacity, t.room.1),
-        omega (arith, c.add_link.ensures.capacity, t.room.2),
-      );
-    }
+    let last : c.len-place.result ≡ length (row_keys t) = omega arith in
+    rw c.push_reserved.ensures.items
+    (indexed_push (row_keys t) c.args.key.now t.places c.add_place.new.places t.indexed (absent (at-invariant_of-self-clause-indexed c).In_default)
+    (subst (λ (n : ℕ). Updates key_eq t.places c.add_place.new.places c.args.key.now (Some n)) last c.add_place.ensures.updates))
 
 pub returns : goal.returns
 returns c =
     let t = c.args.self.now in
-    let at : c.len-place.result ≡ length (row_keys t) = c.len-place.ensures ∙ sym (row_length t) in
-    let i = interns_new (λ _. true) (row_keys t) (key_cells c.args.key.now) (absent (at-returns c).In_default) refl (omega (arith, at, c.if-place-ge-MAX_GROUPS.false)) in
-    record {
-      answer = ap Some at ∙ sym i.0;
-      after = row_pushed (vec_items t.keys) (vec_items c.push_reserved.new.self) c.args.key.now c.push_reserved.ensures.items ∙ sym i.1;
-    }
+    let at : c.len-place.result ≡ length (row_keys t) = omega arith in
+    let i = interns_new (λ _. true) (row_keys t) c.args.key.now (absent (at-returns c).In_default) refl (omega arith) in
+    record { answer = ap Some at ∙ sym i.0; after = c.push_reserved.ensures.items ∙ sym i.1 }

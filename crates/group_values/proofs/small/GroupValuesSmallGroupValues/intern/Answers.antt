@@ -1,67 +1,56 @@
--- A key without a slot stays out, a slot with a link is found, and one without is added.
-use Rattle.std.proofs.Common.{◌≡◌, ◌-◌, ◌<◌, [], ◌∷◌, ◌++◌, length, get_or, take, Some, sym, ap, ◌∙◌, subst, arith}
-use Rattle.std.proofs.lemmas.List.{length-set}
-use Rattle.cells.specs.Keys.{key_cells}
-use Rattle.group_values.specs.Slots.{small_key}
+-- A key without a slot stays out, a slot with a place is found, and one without is added.
+use Rattle.std.proofs.Common.{◌<◌, [], ◌∷◌, ◌++◌, map, length, Some, sym, ap, ◌∙◌, subst, arith}
+use Rattle.std.proofs.lemmas.List.{map_push}
+use Rattle.group_values.specs.Slots.{slot_key, small_key}
 use Rattle.group_values.specs.Smalls.{small_keys}
 use Rattle.group_values.specs.Tables.{Absent}
-use Rattle.group_values.specs.SlotsLemmas.{slot_small, slots_distinct, slots_admitted, slots_found, slots_absent}
-use Rattle.group_values.specs.SmallsLemmas.{small_index, small_length, small_room, small_keys_push, small_index_push}
+use Rattle.group_values.specs.SlotsLemmas.{slot_small, slots_distinct, slots_admitted, slots_found, slots_absent, slots_room, index_push}
+use Rattle.group_values.specs.SmallsLemmas.{small_length}
 use Rattle.group_values.specs.TablesLemmas.{absent_out, interns_found, interns_new, interns_out}
 use Rattle.group_values.proofs.small.GroupValuesSmallGroupValues.intern.Goals as goal
 
 pub returns-in_err-slot : goal.returns-in_err-slot
 returns-in_err-slot c =
     let t = c.args.self.now in
-    let key = key_cells c.args.key.now in
     let out = c.in_err-slot.ensures in
-    let absent = absent_out small_key (small_keys t) key (slots_admitted (take t.len t.slots) t.links (small_index t)) out in
-    let i = interns_out small_key (small_keys t) key absent out in
+    let absent = absent_out small_key (small_keys t) c.args.key.now (slots_admitted t.slots.items t.places t.indexed) out in
+    let i = interns_out small_key (small_keys t) c.args.key.now absent out in
     record { answer = c.from_residual.ensures ∙ sym i.0; after = sym i.1 }
 
-pub returns-then-link-gt0 : goal.returns-then-link-gt0
-returns-then-link-gt0 c =
+pub returns-in-Some : goal.returns-in-Some
+returns-in-Some c =
     let t = c.args.self.now in
-    let slots = take t.len t.slots in
-    let s = c.in_ok-slot.slot in
-    let key = key_cells c.args.key.now in
-    let found = slots_found slots t.links (small_index t) s c.if-link-gt0.true in
-    let held = found.1 ∙ sym c.in_ok-slot.ensures.1 in
-    let apart = slots_distinct slots t.links (small_index t) in
-    let i = interns_found small_key (small_keys t) key (get_or t.links s 0 - 1) apart found.0 held in
-    record { answer = sym i.0; after = sym i.1 }
+    let found = slots_found t.slots.items t.places t.indexed c.in_ok-slot.slot c.in-Some.place c.in-Some.is in
+    let apart = slots_distinct t.slots.items t.places t.indexed in
+    let i = interns_found small_key (small_keys t) c.args.key.now c.in-Some.place apart found.0 (found.1 ∙ sym c.in_ok-slot.ensures.1) in
+    record { answer = ap Some c.from.ensures ∙ sym i.0; after = sym i.1 }
 
-pub bounds-self-place : goal.bounds-self-place
-bounds-self-place c =
-    small_room c.args.self.now c.in_ok-slot.slot c.in_ok-slot.ensures.0 (omega (arith, c.if-link-gt0.false))
+pub push-requires : goal.push-requires
+push-requires c =
+    let t = c.args.self.now in
+    (omega arith, slots_room t.slots.items t.places c.in_ok-slot.slot t.indexed c.in_ok-slot.ensures.0 c.in_default.is)
 
 pub invariant_of-self : goal.invariant_of-self
 invariant_of-self c =
     let t = c.args.self.now in
-    let s = c.in_ok-slot.slot in
-    let free : get_or t.links s 0 ≡ 0 = omega (arith, c.if-link-gt0.false) in
-    let room = small_room t s c.in_ok-slot.ensures.0 free in
-    let ix = small_index_push t s c.in_ok-slot.ensures.0 free in
     record {
-      sized = (length-set t.slots t.len s ∙ t.sized.0, omega (arith, room));
-      below = ix.0;
-      counted = ix.1;
-      linked = ix.2;
-      leads = ix.3;
+      indexed = rw (c.push.ensures.items, c.len-place.ensures.value)
+          (index_push t.slots.items t.places c.in_ok-slot.slot t.indexed c.in_ok-slot.ensures.0 c.in_default.is);
     }
 
 pub returns : goal.returns
 returns c =
     let t = c.args.self.now in
     let s = c.in_ok-slot.slot in
-    let small = c.in_ok-slot.ensures in
-    let free : get_or t.links s 0 ≡ 0 = omega (arith, c.if-link-gt0.false) in
-    let key = key_cells c.args.key.now in
-    let same = small.1 in
-    let absent = subst (Absent (small_keys t)) (sym same) (slots_absent (take t.len t.slots) t.links (small_index t) s free) in
-    let few : length (small_keys t) < 512 = omega (arith, small_length t, t.sized.1) in
-    let i = interns_new small_key (small_keys t) key absent (ap small_key same ∙ slot_small s small.0) few in
+    let same = c.in_ok-slot.ensures.1 in
+    let absent = subst (Absent (small_keys t)) (sym same) (slots_absent t.slots.items t.places t.indexed s c.in_default.is) in
+    let room = slots_room t.slots.items t.places s t.indexed c.in_ok-slot.ensures.0 c.in_default.is in
+    let few : length (small_keys t) < 512 = omega (arith, small_length t, room) in
+    let i = interns_new small_key (small_keys t) c.args.key.now absent (ap small_key same ∙ slot_small s c.in_ok-slot.ensures.0) few in
     record {
-      answer = ap Some (sym (small_length t)) ∙ sym i.0;
-      after = small_keys_push t s small.0 free ∙ ap (λ k. small_keys t ++ k ∷ []) (sym same) ∙ sym i.1;
+      answer = ap Some (c.len-place.ensures.value ∙ sym (small_length t)) ∙ sym i.0;
+      after = ap (map slot_key) c.push.ensures.items
+          ∙ map_push slot_key t.slots.items s
+          ∙ ap (λ k. small_keys t ++ k ∷ []) (sym same)
+          ∙ sym i.1;
     }
