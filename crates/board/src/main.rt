@@ -43,7 +43,8 @@ impl Rows {
     /// Hands the rows over.
     fn pass(&mut self, report: &mut Report) -> anyhow::Result<()> {
         let batch = Batch::new(&self.values, &self.flags, COLUMNS)
-            .map_err(|_| anyhow!("the rows are no batch"))?;
+            .ok()
+            .context("the rows are no batch")?;
         report.add(&batch)?;
         self.values.clear();
         self.flags.clear();

@@ -2,10 +2,10 @@
 
 use accumulators::{GroupsAccumulator, KindGroupsAccumulator, PairGroupsAccumulator};
 use aggregates::{AggregateExpr, Count, Min, Sum};
+use anyhow::anyhow;
 use cells::{Batch, Cell, Key, MAX_BATCH_ROWS};
 use group_by::{GroupByKeys, PhysicalGroupBy};
 use group_values::{GroupValues, GroupValuesRows};
-use anyhow::anyhow;
 use std::alloc::{AllocError, Global};
 use std::fmt;
 
@@ -57,7 +57,10 @@ impl fmt::Display for Line {
         let net = Shown(self.key.cell(0));
         let layer = Shown(self.key.cell(1));
         let [clearance, length, vias] = self.figures.map(Shown);
-        write!(f, "{net:>6} {layer:>6} {clearance:>10} {length:>10} {vias:>6}")
+        write!(
+            f,
+            "{net:>6} {layer:>6} {clearance:>10} {length:>10} {vias:>6}"
+        )
     }
 }
 
@@ -79,8 +82,10 @@ impl Report {
             groups: vec![in heap; vec![in heap; false, false]?]?,
             has_grouping_set: false,
         };
-        let keys = GroupByKeys::try_new(heap, group_by)
-            .map_err(|refused| anyhow!("net and layer are no key: {:?}", refused.fault))?;
+        let keys = GroupByKeys::try_new(heap, group_by).map_err(|refused| {
+            let fault = refused.fault;
+            anyhow!("net and layer are no key: {fault:?}")
+        })?;
         Ok(Report {
             keys,
             table: GroupValuesRows::new(heap)?,
@@ -129,6 +134,10 @@ impl fmt::Display for Report {
         }
         writeln!(f, "rows read: {}", self.rows)?;
         writeln!(f, "groups: {groups}")?;
-        write!(f, "rows refused, since the table holds 512 groups: {}", self.no_room)
+        write!(
+            f,
+            "rows refused, since the table holds 512 groups: {}",
+            self.no_room
+        )
     }
 }

@@ -246,27 +246,24 @@ mod tests {
         Ok(rows)
     }
 
+    fn fault(bytes: &[u8]) -> Result<Fault, Fail> {
+        read(bytes).err().ok_or_else(|| Fail::new("it was read"))
+    }
+
     // Where the lines behind the header are broken, and how.
     fn broken(rt: &HostRuntime, lines: &[u8]) -> Result<(u64, u64, Wrong), Fail> {
         let mut bytes = HEAD.to_vec(rt.alloc())?;
         bytes.extend_from_slice(lines)?;
-        match read(&bytes) {
-            Ok(_) => Err(Fail::new("it was read")),
-            Err(fault) => Ok((fault.line, fault.column, fault.wrong)),
-        }
+        let fault = fault(&bytes)?;
+        Ok((fault.line, fault.column, fault.wrong))
     }
 
     #[test]
     fn whole_lines_are_read(rt: HostRuntime) -> Result<(), Fail> {
         let mut bytes = HEAD.to_vec(rt.alloc())?;
         bytes.extend_from_slice(b"1,2,3,4,0\n,,,,\r\n-1,-9223372036854775808,,,1")?;
-        match read(&bytes) {
-            Ok(rows) => {
-                assert_eq!(rt; rows, 3);
-                Ok(())
-            },
-            Err(_) => Err(Fail::new("it was not read")),
-        }
+        assert_eq!(rt; read(&bytes)?, 3);
+        Ok(())
     }
 
     #[test]
@@ -282,12 +279,8 @@ mod tests {
 
     #[test]
     fn another_header_is_refused(rt: HostRuntime) -> Result<(), Fail> {
-        match read(b"net,layer,clearance,length,vias\n") {
-            Ok(_) => Err(Fail::new("it was read")),
-            Err(fault) => {
-                assert!(rt; fault.line == 1 && fault.column == 31);
-                Ok(())
-            },
-        }
+        let fault = fault(b"net,layer,clearance,length,vias\n")?;
+        assert!(rt; fault.line == 1 && fault.column == 31);
+        Ok(())
     }
 }
