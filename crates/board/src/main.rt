@@ -5,29 +5,15 @@
 mod report;
 mod segments;
 
-use anyhow::anyhow;
-use cells::{Batch, Cell, MAX_BATCH_ROWS};
-use report::{Line, Report};
-use segments::{COLUMNS, SegmentReader};
+use anyhow::{Context, anyhow};
+use cells::{Batch, MAX_BATCH_ROWS};
+use report::Report;
+use segments::{COLUMNS, Fault, Segment, SegmentReader};
 use std::alloc::{AllocError, Global};
-use std::fmt::Display;
 use std::process::ExitCode;
-use std::{env, fmt, fs};
+use std::{env, fs};
 
-/// A cell as text: its value, or a dash where it is absent.
-#[derive(Clone, Copy)]
-struct Shown(Cell);
-
-impl fmt::Display for Shown {
-    fn fmt<W: fmt::Write>(&self, f: &mut fmt::Formatter<W>) -> fmt::Result {
-        match self.0 {
-            Some(value) => value.fmt(f),
-            None => f.pad("-"),
-        }
-    }
-}
-
-/// Rows that are not in a report yet.
+/// Rows that are not in a report yet, as the two slices of a batch.
 #[derive(Drop)]
 struct Rows {
     values: Vec<i64>,
@@ -42,8 +28,8 @@ impl Rows {
         }
     }
 
-    fn push(&mut self, row: [Option<i64>; 5]) -> Result<(), AllocError> {
-        for cell in row {
+    fn push(&mut self, row: Segment) -> Result<(), AllocError> {
+        for cell in row.as_slice() {
             self.values.push(cell.unwrap_or(0))?;
             self.flags.push(u8::from(cell.is_some()))?;
         }
@@ -56,9 +42,9 @@ impl Rows {
 
     /// Hands the rows over.
     fn pass(&mut self, report: &mut Report) -> anyhow::Result<()> {
-        let Ok(batch) = Batch::new(&self.values, &self.flags, COLUMNS) else {
-            return Err(anyhow!("the rows are no batch"));
-        };
+        let batch = Batch::new(&self.values, &self.flags, COLUMNS)
+            .ok()
+            .context("the rows are no batch")?;
         report.add(&batch)?;
         self.values.clear();
         self.flags.clear();
@@ -68,75 +54,31 @@ impl Rows {
 
 /// Reads the file's rows into a report.
 fn read(heap: Global, path: &str, bytes: &[u8]) -> anyhow::Result<Report> {
+    let in_file = |fault: Fault| anyhow!("{path}: {fault}");
     let mut report = Report::new(heap)?;
     let mut rows = Rows::new(heap);
     let mut reader = SegmentReader::new();
     for byte in bytes {
-        if let Some(row) = read_byte(heap, path, &mut reader, *byte)? {
+        if let Some(row) = reader.feed(*byte).map_err(in_file)? {
             rows.push(row)?;
             if rows.are_many() {
                 rows.pass(&mut report)?;
             }
         }
     }
-    match reader.finish() {
-        Ok(Some(row)) => rows.push(row)?,
-        Ok(None) => {}
-        Err(fault) => return Err(anyhow!(format!(in heap; "{path}: {fault}")?)),
+    if let Some(row) = reader.finish().map_err(in_file)? {
+        rows.push(row)?;
     }
     rows.pass(&mut report)?;
     Ok(report)
 }
 
-fn read_byte(
-    heap: Global,
-    path: &str,
-    reader: &mut SegmentReader,
-    byte: u8,
-) -> anyhow::Result<Option<[Option<i64>; 5]>> {
-    match reader.feed(byte) {
-        Ok(row) => Ok(row),
-        Err(fault) => Err(anyhow!(format!(in heap; "{path}: {fault}")?)),
-    }
-}
-
-fn print_line(rt: &HostRuntime, line: Line) -> anyhow::Result<()> {
-    let net = Shown(line.net);
-    let layer = Shown(line.layer);
-    let clearance = Shown(line.figures[0]);
-    let length = Shown(line.figures[1]);
-    let vias = Shown(line.figures[2]);
-    println!(rt; "{net:>6} {layer:>6} {clearance:>10} {length:>10} {vias:>6}")?;
-    Ok(())
-}
-
-fn print_report(rt: &HostRuntime, report: &Report) -> anyhow::Result<()> {
-    println!(rt; "   net  layer  clearance     length   vias")?;
-    let groups = report.groups();
-    for place in 0..groups {
-        print_line(rt, report.line(place))?;
-    }
-    let rows = report.rows;
-    println!(rt; "rows read: {rows}")?;
-    println!(rt; "groups: {groups}")?;
-    let no_room = report.no_room;
-    println!(rt; "rows refused, since the table holds 512 groups: {no_room}")?;
-    Ok(())
-}
-
 fn run(rt: &HostRuntime) -> anyhow::Result<()> {
-    let heap = rt.alloc();
-    let mut args = env::args(rt)?;
-    let _ = args.next();
-    let Some(path) = args.next() else {
-        return Err(anyhow!("usage: board FILE"));
-    };
-    let bytes = match fs::read(rt, path.as_str()) {
-        Ok(bytes) => bytes,
-        Err(e) => return Err(anyhow!(format!(in heap; "{path}: {e}")?)),
-    };
-    let report = read(heap, path.as_str(), &bytes)?;
-    print_report(rt, &report)
+    let path = env::args(rt)?.nth(1).context("usage: board FILE")?;
+    let bytes = fs::read(rt, path.as_str()).map_err(|e| anyhow!("{path}: {e}"))?;
+    let report = read(rt.alloc(), path.as_str(), &bytes)?;
+    println!(rt; "{report}")?;
+    Ok(())
 }
 
 fn main(rt: HostRuntime) -> ExitCode {

@@ -1,12 +1,13 @@
 //! The groups of a board: least clearance, copper length and vias of each net and layer.
 
-use crate::segments::COLUMNS;
 use accumulators::{GroupsAccumulator, KindGroupsAccumulator, PairGroupsAccumulator};
 use aggregates::{AggregateExpr, Count, Min, Sum};
-use cells::{Batch, Cell, MAX_BATCH_ROWS};
+use anyhow::anyhow;
+use cells::{Batch, Cell, Key, MAX_BATCH_ROWS};
 use group_by::{GroupByKeys, PhysicalGroupBy};
 use group_values::{GroupValues, GroupValuesRows};
 use std::alloc::{AllocError, Global};
+use std::fmt;
 
 /// The least clearance, the copper length and the vias of each group.
 type Figures = PairGroupsAccumulator<
@@ -26,17 +27,41 @@ pub struct Report {
     exprs: [AggregateExpr; 3],
     places: Vec<usize>,
     /// Rows that were read.
-    pub rows: u64,
+    rows: u64,
     /// Rows whose group found no room in the table.
-    pub no_room: u64,
+    no_room: u64,
+}
+
+/// A cell as text: its value, or a dash where it is absent.
+#[derive(Clone, Copy)]
+struct Shown(Cell);
+
+impl fmt::Display for Shown {
+    fn fmt<W: fmt::Write>(&self, f: &mut fmt::Formatter<W>) -> fmt::Result {
+        match self.0 {
+            Some(value) => value.fmt(f),
+            None => f.pad("-"),
+        }
+    }
 }
 
 /// A group's key and figures.
 #[derive(Clone, Copy)]
-pub struct Line {
-    pub net: Cell,
-    pub layer: Cell,
-    pub figures: [Cell; 3],
+struct Line {
+    key: Key,
+    figures: [Cell; 3],
+}
+
+impl fmt::Display for Line {
+    fn fmt<W: fmt::Write>(&self, f: &mut fmt::Formatter<W>) -> fmt::Result {
+        let net = Shown(self.key.cell(0));
+        let layer = Shown(self.key.cell(1));
+        let [clearance, length, vias] = self.figures.map(Shown);
+        write!(
+            f,
+            "{net:>6} {layer:>6} {clearance:>10} {length:>10} {vias:>6}"
+        )
+    }
 }
 
 fn expr(argument: usize, filter: Option<usize>) -> AggregateExpr {
@@ -51,19 +76,16 @@ fn figures(heap: Global) -> Result<Figures, AllocError> {
 }
 
 impl Report {
-    pub fn new(heap: Global) -> Result<Report, AllocError> {
-        let columns = vec![in heap; 0, 1]?;
-        let marks = vec![in heap; false, false]?;
-        let mut groups = Vec::with_capacity(heap, 1)?;
-        groups.push(marks)?;
+    pub fn new(heap: Global) -> anyhow::Result<Report> {
         let group_by = PhysicalGroupBy {
-            columns,
-            groups,
+            columns: vec![in heap; 0, 1]?,
+            groups: vec![in heap; vec![in heap; false, false]?]?,
             has_grouping_set: false,
         };
-        let Ok(keys) = GroupByKeys::try_new(heap, group_by) else {
-            return Err(AllocError);
-        };
+        let keys = GroupByKeys::try_new(heap, group_by).map_err(|refused| {
+            let fault = refused.fault;
+            anyhow!("net and layer are no key: {fault:?}")
+        })?;
         Ok(Report {
             keys,
             table: GroupValuesRows::new(heap)?,
@@ -81,10 +103,9 @@ impl Report {
         for row in 0..batch.num_rows() {
             let key = self.keys.evaluate_group_by(batch, row, 0);
             let place = self.table.intern(&key);
+            let refused = u64::from(place.is_none());
             self.rows = self.rows.saturating_add(1);
-            if place.is_none() {
-                self.no_room = self.no_room.saturating_add(1);
-            }
+            self.no_room = self.no_room.saturating_add(refused);
             self.places.push(place.unwrap_or(NOWHERE))?;
         }
         let total = self.table.len();
@@ -93,20 +114,30 @@ impl Report {
         Ok(())
     }
 
-    /// How many groups there are.
-    pub fn groups(&self) -> usize {
-        self.table.len()
-    }
-
     /// The group at a place.
-    pub fn line(&self, place: usize) -> Line {
-        let key = self.table.key(place);
+    fn line(&self, place: usize) -> Line {
         let mut figures: [Cell; 3] = [None; 3];
         self.figures.evaluate(place, &mut figures);
         Line {
-            net: key.cell(0),
-            layer: key.cell(1),
+            key: self.table.key(place),
             figures,
         }
+    }
+}
+
+impl fmt::Display for Report {
+    fn fmt<W: fmt::Write>(&self, f: &mut fmt::Formatter<W>) -> fmt::Result {
+        let groups = self.table.len();
+        writeln!(f, "   net  layer  clearance     length   vias")?;
+        for place in 0..groups {
+            writeln!(f, "{}", self.line(place))?;
+        }
+        writeln!(f, "rows read: {}", self.rows)?;
+        writeln!(f, "groups: {groups}")?;
+        write!(
+            f,
+            "rows refused, since the table holds 512 groups: {}",
+            self.no_room
+        )
     }
 }

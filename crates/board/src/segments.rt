@@ -1,6 +1,8 @@
 //! The trace segments of a board as text: a header, and then a line for each segment.
 
-use std::fmt;
+use cells::{Cell, CellRow};
+use std::mem;
+use thiserror::Error;
 
 /// What each line holds, in this order.
 const HEADER: &[u8] = b"net,layer,clearance,length,via";
@@ -8,56 +10,141 @@ const HEADER: &[u8] = b"net,layer,clearance,length,via";
 /// How many cells a segment has.
 pub const COLUMNS: usize = 5;
 
+/// A segment's cells, in the order of the header.
+pub type Segment = CellRow<COLUMNS>;
+
 /// What is wrong with a line.
-#[derive(Clone, Copy, PartialEq, Eq, Debug)]
+#[derive(Clone, Copy, PartialEq, Eq, Debug, Error)]
 pub enum Wrong {
+    #[error("the first line is not 'net,layer,clearance,length,via'")]
     Header,
+    #[error("this is no whole number")]
     Number,
+    #[error("the number does not fit 64 bits")]
     Range,
+    #[error("the line ends before its fifth cell")]
     FewCells,
+    #[error("the line has more than five cells")]
     ManyCells,
+    #[error("a carriage return stands before no line feed")]
     LineEnd,
 }
 
 /// Where a file is broken, lines and columns counted from 1.
-#[derive(Clone, Copy, Debug)]
+#[derive(Clone, Copy, Debug, Error)]
+#[error("line {line}, column {column}: {wrong}")]
 pub struct Fault {
     pub line: u64,
     pub column: u64,
     pub wrong: Wrong,
 }
 
-impl fmt::Display for Wrong {
-    fn fmt<W: fmt::Write>(&self, f: &mut fmt::Formatter<W>) -> fmt::Result {
-        match self {
-            Wrong::Header => write!(f, "the first line is not 'net,layer,clearance,length,via'"),
-            Wrong::Number => write!(f, "this is no whole number"),
-            Wrong::Range => write!(f, "the number does not fit 64 bits"),
-            Wrong::FewCells => write!(f, "the line ends before its fifth cell"),
-            Wrong::ManyCells => write!(f, "the line has more than five cells"),
-            Wrong::LineEnd => write!(f, "a carriage return stands before no line feed"),
-        }
-    }
-}
-
-impl fmt::Display for Fault {
-    fn fmt<W: fmt::Write>(&self, f: &mut fmt::Formatter<W>) -> fmt::Result {
-        let line = self.line;
-        let column = self.column;
-        let wrong = self.wrong;
-        write!(f, "line {line}, column {column}: {wrong}")
-    }
-}
-
-/// The cell that is being read.
+/// A cell as far as it has been read.
 #[derive(Clone, Copy)]
-enum Reading {
+enum Begun {
     /// Nothing of it yet.
     Empty,
     /// Only a sign.
     Minus,
     /// Some digits, as a number that is not positive, since only those reach the least of 64 bits.
     Digits { minus: bool, value: i64 },
+}
+
+impl Begun {
+    /// The cell with one byte more.
+    ///
+    /// `parse` takes whole texts and tells of a letter and of the range in another order.
+    fn with(self, byte: u8) -> Result<Begun, Wrong> {
+        let (minus, value) = match self {
+            Begun::Empty if byte == b'-' => return Ok(Begun::Minus),
+            Begun::Empty => (false, 0i64),
+            Begun::Minus => (true, 0),
+            Begun::Digits { minus, value } => (minus, value),
+        };
+        if !byte.is_ascii_digit() {
+            return Err(Wrong::Number);
+        }
+        let digit = i64::from(byte - b'0');
+        let value = value
+            .checked_mul(10)
+            .and_then(|tens| tens.checked_sub(digit))
+            .ok_or(Wrong::Range)?;
+        Ok(Begun::Digits { minus, value })
+    }
+
+    /// The cell, where it ends.
+    fn cell(self) -> Result<Cell, Wrong> {
+        match self {
+            Begun::Empty => Ok(None),
+            Begun::Minus => Err(Wrong::Number),
+            Begun::Digits { minus: true, value } => Ok(Some(value)),
+            Begun::Digits {
+                minus: false,
+                value,
+            } => value.checked_neg().map(Some).ok_or(Wrong::Range),
+        }
+    }
+}
+
+/// A segment as far as it has been read: its whole cells, and the one behind them.
+#[derive(Clone, Copy)]
+struct Row {
+    cells: Segment,
+    last: Begun,
+}
+
+impl Row {
+    fn new() -> Row {
+        Row {
+            cells: Segment::new(),
+            last: Begun::Empty,
+        }
+    }
+
+    /// One byte more; the segment, if it ends there.
+    fn read(&mut self, byte: u8) -> Result<Option<Segment>, Wrong> {
+        match byte {
+            b',' => {
+                self.end_cell()?;
+                if self.is_whole() {
+                    return Err(Wrong::ManyCells);
+                }
+                Ok(None)
+            }
+            b'\n' => {
+                self.end_cell()?;
+                if !self.is_whole() {
+                    return Err(Wrong::FewCells);
+                }
+                Ok(Some(mem::replace(self, Row::new()).cells))
+            }
+            b'\r' => Ok(None),
+            _ => {
+                self.last = self.last.with(byte)?;
+                Ok(None)
+            }
+        }
+    }
+
+    fn end_cell(&mut self) -> Result<(), Wrong> {
+        self.cells.push(self.last.cell()?);
+        self.last = Begun::Empty;
+        Ok(())
+    }
+
+    fn is_whole(&self) -> bool {
+        self.cells.as_slice().len() == COLUMNS
+    }
+}
+
+/// What is left of the header behind a byte; none behind the end of its line.
+fn header_behind(left: &'static [u8], byte: u8) -> Result<Option<&'static [u8]>, Wrong> {
+    match left {
+        [first, left @ ..] if *first == byte => Ok(Some(left)),
+        [] if byte == b'\r' => Ok(Some(left)),
+        [] if byte == b'\n' => Ok(None),
+        _ => Err(Wrong::Header),
+    }
 }
 
 /// Reads a file byte by byte.
@@ -67,11 +154,9 @@ pub struct SegmentReader {
     column: u64,
     /// The column where the present cell begins.
     begins: u64,
-    /// How many bytes of the header have been read; the whole header and its line's end is one more than it has.
-    header: usize,
-    reading: Reading,
-    row: [Option<i64>; 5],
-    cells: usize,
+    /// What is left of the header, until its line has ended.
+    header: Option<&'static [u8]>,
+    row: Row,
     /// Whether the last byte was a carriage return, which only a line feed may follow.
     carriage: bool,
 }
@@ -82,141 +167,61 @@ impl SegmentReader {
             line: 1,
             column: 1,
             begins: 1,
-            header: 0,
-            reading: Reading::Empty,
-            row: [None; 5],
-            cells: 0,
+            header: Some(HEADER),
+            row: Row::new(),
             carriage: false,
         }
     }
 
-    /// One byte more; a row, if it ends one.
-    pub fn feed(&mut self, byte: u8) -> Result<Option<[Option<i64>; 5]>, Fault> {
-        if self.carriage && byte != b'\n' {
-            return Err(self.fault(Wrong::LineEnd));
-        }
-        self.carriage = byte == b'\r';
-        let row = if self.header <= HEADER.len() {
-            self.feed_header(byte)?;
-            None
-        } else {
-            self.feed_row(byte)?
-        };
+    /// One byte more; a segment, if it ends one.
+    pub fn feed(&mut self, byte: u8) -> Result<Option<Segment>, Fault> {
+        let segment = self.read(byte).map_err(|wrong| self.fault(wrong))?;
         if byte == b'\n' {
             self.line = self.line.saturating_add(1);
             self.column = 1;
-            self.begins = 1;
         } else {
             self.column = self.column.saturating_add(1);
         }
-        Ok(row)
+        if matches!(byte, b',' | b'\n') {
+            self.begins = self.column;
+        }
+        Ok(segment)
     }
 
-    /// The file is at its end; the row of a last line that no line feed ends.
-    pub fn finish(&mut self) -> Result<Option<[Option<i64>; 5]>, Fault> {
-        if self.column == 1 && self.header > HEADER.len() {
+    /// The file is at its end; the segment of a last line that no line feed ends.
+    pub fn finish(&mut self) -> Result<Option<Segment>, Fault> {
+        if self.header.is_none() && self.column == 1 {
             Ok(None)
         } else {
             self.feed(b'\n')
         }
     }
 
+    fn read(&mut self, byte: u8) -> Result<Option<Segment>, Wrong> {
+        if self.carriage && byte != b'\n' {
+            return Err(Wrong::LineEnd);
+        }
+        self.carriage = byte == b'\r';
+        match self.header {
+            Some(left) => {
+                self.header = header_behind(left, byte)?;
+                Ok(None)
+            }
+            None => self.row.read(byte),
+        }
+    }
+
+    /// A number out of range is told where its cell begins, all else where it shows.
     fn fault(&self, wrong: Wrong) -> Fault {
+        let column = match wrong {
+            Wrong::Range => self.begins,
+            _ => self.column,
+        };
         Fault {
             line: self.line,
-            column: self.column,
+            column,
             wrong,
         }
-    }
-
-    fn feed_header(&mut self, byte: u8) -> Result<(), Fault> {
-        let whole = self.header >= HEADER.len();
-        if whole && byte == b'\r' {
-            return Ok(());
-        }
-        let expected = if whole { b'\n' } else { HEADER[self.header] };
-        if byte != expected {
-            return Err(self.fault(Wrong::Header));
-        }
-        self.header = self.header.saturating_add(1);
-        Ok(())
-    }
-
-    fn feed_row(&mut self, byte: u8) -> Result<Option<[Option<i64>; 5]>, Fault> {
-        match byte {
-            b',' => {
-                self.end_cell()?;
-                if self.cells >= COLUMNS {
-                    return Err(self.fault(Wrong::ManyCells));
-                }
-                self.begins = self.column.saturating_add(1);
-                Ok(None)
-            }
-            b'\n' => {
-                self.end_cell()?;
-                if self.cells < COLUMNS {
-                    return Err(self.fault(Wrong::FewCells));
-                }
-                self.cells = 0;
-                Ok(Some(self.row))
-            }
-            b'\r' => Ok(None),
-            _ => {
-                self.reading = self.digit(byte)?;
-                Ok(None)
-            }
-        }
-    }
-
-    fn digit(&self, byte: u8) -> Result<Reading, Fault> {
-        let (minus, value) = match self.reading {
-            Reading::Empty if byte == b'-' => return Ok(Reading::Minus),
-            Reading::Empty => (false, 0i64),
-            Reading::Minus => (true, 0),
-            Reading::Digits { minus, value } => (minus, value),
-        };
-        if byte < b'0' || byte > b'9' {
-            return Err(self.fault(Wrong::Number));
-        }
-        let digit = i64::from(byte - b'0');
-        let Some(tens) = value.checked_mul(10) else {
-            return Err(self.range());
-        };
-        let Some(value) = tens.checked_sub(digit) else {
-            return Err(self.range());
-        };
-        Ok(Reading::Digits { minus, value })
-    }
-
-    fn range(&self) -> Fault {
-        Fault {
-            line: self.line,
-            column: self.begins,
-            wrong: Wrong::Range,
-        }
-    }
-
-    fn end_cell(&mut self) -> Result<(), Fault> {
-        let cell = match self.reading {
-            Reading::Empty => None,
-            Reading::Minus => return Err(self.fault(Wrong::Number)),
-            Reading::Digits { minus: true, value } => Some(value),
-            Reading::Digits {
-                minus: false,
-                value,
-            } => {
-                let Some(positive) = value.checked_neg() else {
-                    return Err(self.range());
-                };
-                Some(positive)
-            }
-        };
-        if self.cells < COLUMNS {
-            self.row[self.cells] = cell;
-            self.cells += 1;
-        }
-        self.reading = Reading::Empty;
-        Ok(())
     }
 }
 
@@ -241,27 +246,24 @@ mod tests {
         Ok(rows)
     }
 
+    fn fault(bytes: &[u8]) -> Result<Fault, Fail> {
+        read(bytes).err().ok_or_else(|| Fail::new("it was read"))
+    }
+
     // Where the lines behind the header are broken, and how.
     fn broken(rt: &HostRuntime, lines: &[u8]) -> Result<(u64, u64, Wrong), Fail> {
         let mut bytes = HEAD.to_vec(rt.alloc())?;
         bytes.extend_from_slice(lines)?;
-        match read(&bytes) {
-            Ok(_) => Err(Fail::new("it was read")),
-            Err(fault) => Ok((fault.line, fault.column, fault.wrong)),
-        }
+        let fault = fault(&bytes)?;
+        Ok((fault.line, fault.column, fault.wrong))
     }
 
     #[test]
     fn whole_lines_are_read(rt: HostRuntime) -> Result<(), Fail> {
         let mut bytes = HEAD.to_vec(rt.alloc())?;
         bytes.extend_from_slice(b"1,2,3,4,0\n,,,,\r\n-1,-9223372036854775808,,,1")?;
-        match read(&bytes) {
-            Ok(rows) => {
-                assert_eq!(rt; rows, 3);
-                Ok(())
-            },
-            Err(_) => Err(Fail::new("it was not read")),
-        }
+        assert_eq!(rt; read(&bytes)?, 3);
+        Ok(())
     }
 
     #[test]
@@ -277,12 +279,8 @@ mod tests {
 
     #[test]
     fn another_header_is_refused(rt: HostRuntime) -> Result<(), Fail> {
-        match read(b"net,layer,clearance,length,vias\n") {
-            Ok(_) => Err(Fail::new("it was read")),
-            Err(fault) => {
-                assert!(rt; fault.line == 1 && fault.column == 31);
-                Ok(())
-            },
-        }
+        let fault = fault(b"net,layer,clearance,length,vias\n")?;
+        assert!(rt; fault.line == 1 && fault.column == 31);
+        Ok(())
     }
 }

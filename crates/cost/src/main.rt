@@ -5,7 +5,7 @@
 
 use accumulators::{GroupsAccumulator, KindGroupsAccumulator};
 use aggregates::{AggregateExpr, Min};
-use anyhow::anyhow;
+use anyhow::Context;
 use cells::{Batch, Key};
 use group_values::{GroupValues, GroupValuesRows};
 use std::alloc::Global;
@@ -13,7 +13,10 @@ use std::time::Instant;
 
 const ROWS: usize = 512;
 
-const ROUNDS: u32 = 4000;
+const ROUNDS: usize = 4000;
+
+/// A place that no group has, so that its row is passed over.
+const NOWHERE: usize = usize::MAX;
 
 /// Keys and places of a batch whose rows go round among so many groups.
 #[derive(Drop)]
@@ -27,36 +30,28 @@ struct Load {
 
 impl Load {
     fn new(heap: Global, groups: i64) -> anyhow::Result<Load> {
-        let mut load = Load {
+        Ok(Load {
             table: GroupValuesRows::new(heap)?,
             least: KindGroupsAccumulator::new(heap)?,
             places: Vec::with_capacity(heap, ROWS)?,
-            values: Vec::new(heap),
-            flags: Vec::new(heap),
-        };
-        let mut key = 0i64;
-        for _ in 0..ROWS {
-            load.values.push(key.wrapping_mul(7919))?;
-            load.flags.push(1)?;
-            key = if key.wrapping_add(1) >= groups {
-                0
-            } else {
-                key.wrapping_add(1)
-            };
-        }
-        Ok(load)
+            values: (0..groups)
+                .cycle()
+                .take(ROWS)
+                .map(|key| key.wrapping_mul(7919))
+                .collect(heap)?,
+            flags: vec![in heap; 1; ROWS]?,
+        })
     }
 
     fn round(&mut self) -> anyhow::Result<()> {
-        let Ok(batch) = Batch::new(&self.values, &self.flags, 1) else {
-            return Err(anyhow!("the rows are no batch"));
-        };
+        let batch = Batch::new(&self.values, &self.flags, 1)
+            .ok()
+            .context("the rows are no batch")?;
         self.places.clear();
         for row in 0..batch.num_rows() {
-            let mut key = Key::new();
-            key.push(batch.cell(row, 0));
-            self.places
-                .push(self.table.intern(&key).unwrap_or(usize::MAX))?;
+            let key = Key::from_slice(&[batch.cell(row, 0)]);
+            let place = self.table.intern(&key);
+            self.places.push(place.unwrap_or(NOWHERE))?;
         }
         let exprs = [AggregateExpr {
             argument: 0,
@@ -76,7 +71,7 @@ fn measure(rt: &HostRuntime, groups: i64) -> anyhow::Result<()> {
         load.round()?;
     }
     let spent = start.elapsed(rt)?.as_nanos();
-    let rows = u128::from(ROUNDS).saturating_mul(512);
+    let rows = (ROUNDS * ROWS) as u128;
     let each = spent.saturating_mul(10) / rows;
     let whole = each / 10;
     let tenth = each % 10;
