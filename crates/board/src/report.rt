@@ -15,7 +15,7 @@ type Figures = PairGroupsAccumulator<
     PairGroupsAccumulator<KindGroupsAccumulator<Sum>, KindGroupsAccumulator<Count>>,
 >;
 
-/// A place that no group has, so that its row is passed over.
+/// A place that no group has, so that its row is passed over; accumulators take places as numbers.
 const NOWHERE: usize = usize::MAX;
 
 /// The groups of the rows so far.

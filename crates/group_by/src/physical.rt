@@ -16,6 +16,7 @@ pub struct PhysicalGroupBy {
 }
 
 /// A grouping whose ids could not be worked out.
+// Named for what it gives back, which one type for all that is refused could not be.
 #[derive(Drop)]
 pub struct GroupByRefused {
     /// The grouping, as it was passed.

@@ -71,6 +71,7 @@ impl SettingsFault {
 }
 
 /// Settings that were turned down.
+// Named for what it gives back, which one type for all that is refused could not be.
 #[derive(Drop)]
 pub struct PlanRefused {
     /// The settings, as they were passed.

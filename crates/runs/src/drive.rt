@@ -145,6 +145,7 @@ pub fn run<G: GroupValues, A: GroupsAccumulator, R: MemoryReservation>(
 ) -> Result<Run<G, A, R>, StreamRefused<G, A, R>>
     ensures { Runs parts script.old result script.new }
 {
+    // The parts go back, so that `?` would not do.
     let Ok(mut replies) = Vec::with_capacity(heap, script.len()) else {
         let fault = SettingsFault::Memory;
         return Err(StreamRefused { parts, fault });

@@ -5,7 +5,7 @@ use group_values::GroupValues;
 use memory::MemoryReservation;
 use stream::{ClosingStream, GroupedHashAggregateStream, OfferFault, TakeFault};
 
-/// The two slices of a call.
+/// The two slices of a call, as its caller has them.
 #[derive(Drop)]
 pub struct Buffers {
     pub values: Vec<i64>,

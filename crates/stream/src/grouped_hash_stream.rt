@@ -160,6 +160,7 @@ impl<G: GroupValues, A: GroupsAccumulator, R: MemoryReservation> GroupedHashAggr
         ensures does { Does (λ u m. handled u m event.entry) self.old self.new (offer_answer result) }
         ensures unaltered { UnlessNoMemory result (self.new ≡ self.old) }
     {
+        // Each pair of state and event has its arm, so that none is forgotten.
         match (self.exec_state, event) {
             (ExecutionState::ReadingInput, InputEvent::Batch(batch)) => {
                 self.group_aggregate_batch(&batch)

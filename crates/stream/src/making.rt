@@ -53,6 +53,7 @@ impl<G: GroupValues, A: GroupsAccumulator, R: MemoryReservation> GroupedHashAggr
             accumulator,
             reservation,
         } = parts;
+        // The other parts go back with these, so that `?` would not do.
         match HeldGroups::new(heap, group_values, accumulator, &settings.order) {
             Ok(held) => Self::over(heap, settings, held, reservation, new),
             Err(back) => Err(StreamRefused {

@@ -75,6 +75,7 @@ pub struct StreamParts<G, A, R> {
 }
 
 /// The parts of a stream that could not be made, as they were passed.
+// Named for what it gives back, which one type for all that is refused could not be.
 #[derive(Drop)]
 pub struct StreamRefused<G, A, R> {
     pub parts: StreamParts<G, A, R>,
