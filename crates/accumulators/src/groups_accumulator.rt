@@ -11,6 +11,7 @@ use aggregates::AggregateExpr;
 use cells::{Batch, Cell, EmitTo};
 
 /// One state for each held group, in the order of the groups.
+// A batch, the columns and a row stand for the arrays that the original's calls take.
 pub trait GroupsAccumulator {
     type State;
 

@@ -13,6 +13,7 @@ pub trait Fold {
     // What the two become.
     ghost op: { ℤ → ℤ → ℤ };
 
+    /// The two as one, the later behind.
     fn fold(earlier: i64, later: i64) -> i64
         ensures { result ≡ op earlier later };
 

@@ -4,7 +4,7 @@ use accumulators::{GroupsAccumulator, KindGroupsAccumulator, PairGroupsAccumulat
 use aggregates::{AggregateExpr, Count, Min, Sum};
 use anyhow::anyhow;
 use cells::{Batch, Cell, Key, MAX_BATCH_ROWS};
-use group_by::{GroupByKeys, PhysicalGroupBy};
+use group_by::{GroupByFault, GroupByKeys, PhysicalGroupBy};
 use group_values::{GroupValues, GroupValuesRows};
 use std::alloc::{AllocError, Global};
 use std::fmt;
@@ -82,9 +82,9 @@ impl Report {
             groups: vec![in heap; vec![in heap; false, false]?]?,
             has_grouping_set: false,
         };
-        let keys = GroupByKeys::try_new(heap, group_by).map_err(|refused| {
-            let fault = refused.fault;
-            anyhow!("net and layer are no key: {fault:?}")
+        let keys = GroupByKeys::try_new(heap, group_by).map_err(|refused| match refused.fault {
+            GroupByFault::Memory => anyhow!("memory allocation failed"),
+            GroupByFault::Id(fault) => anyhow!("net and layer have no id: {fault:?}"),
         })?;
         Ok(Report {
             keys,

@@ -62,6 +62,7 @@ impl<const N: usize> CellRow<N> {
     pub fn cell(&self, place: usize) -> Cell
         ensures { result ≡ slice_index_or self.now place None }
     {
+        // `get` would give an Option of a Cell, which is one itself.
         if place < self.len {
             self.cells[place]
         } else {

@@ -8,6 +8,7 @@ mod batch;
 mod cell_row;
 mod emit_to;
 mod key;
+mod refused;
 mod views;
 mod writing;
 
@@ -15,4 +16,5 @@ pub use batch::{Batch, BatchFault, Cell, MAX_BATCH_ROWS};
 pub use cell_row::CellRow;
 pub use emit_to::{EmitTo, MAX_GROUPS};
 pub use key::{Key, MAX_KEY_CELLS};
+pub use refused::Refused;
 pub use writing::put;

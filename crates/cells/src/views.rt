@@ -71,6 +71,7 @@ impl<'v, 'f> Batch<'v, 'f> {
             return None;
         }
         let place = row * self.columns + column;
+        // `then_some` says the same, and needs a lemma of its own.
         if self.flags[place] == 1 {
             Some(self.values[place])
         } else {

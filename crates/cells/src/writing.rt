@@ -6,6 +6,7 @@ ghost use Rattle.std.specs.Prelude.{◌≡◌, slice_set};
 pub fn put<T: Copy>(slice: &mut [T], place: usize, item: T)
     ensures { slice.new ≡ slice_set slice.old place item }
 {
+    // With `get_mut` the proof did not close.
     if place < slice.len() {
         slice[place] = item;
     }

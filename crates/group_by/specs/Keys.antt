@@ -3,7 +3,7 @@ use Rattle.std.specs.Prelude.{◌≡◌, true, Some, None, Ok, Err, Result}
 use Rattle.group_by.specs.declared.grouping_sets.GroupByFault.{GroupByFault}
 use Rattle.group_by.specs.declared.grouping_sets.GroupByFault.TheVariants.{Id, Memory}
 use Rattle.group_by.specs.declared.keys.GroupByKeys.{GroupByKeys}
-use Rattle.group_by.specs.declared.physical.GroupByRefused.{GroupByRefused}
+use Rattle.cells.specs.declared.refused.Refused.{Refused}
 use Rattle.group_by.specs.declared.physical.PhysicalGroupBy.{PhysicalGroupBy}
 use Rattle.group_by.specs.Ids.{group_id_refusal}
 use Rattle.group_by.specs.Sets.{IdsDiffer}
@@ -18,6 +18,6 @@ Faulty gb (Id e) = group_by_fault gb ≡ Some (group_id_refusal e)
 Faulty gb Memory = (gb.grouped ≡ true) × (group_by_fault gb ≡ None)
 
 -- the keys of a grouping, or the grouping back
-abbrev pub HasKeys : PhysicalGroupBy → Result GroupByKeys GroupByRefused → Type 0
+abbrev pub HasKeys : PhysicalGroupBy → Result GroupByKeys (Refused PhysicalGroupBy GroupByFault) → Type 0
 HasKeys g (Ok k) = (group_by_fault (group_by g) ≡ None) × (k.group_by ≡ g) × ((group_by g).grouped ≡ true → IdsDiffer (group_by g).sets)
-HasKeys g (Err r) = Faulty (group_by g) r.fault × (r.group_by ≡ g)
+HasKeys g (Err r) = Faulty (group_by g) r.fault × (r.given ≡ g)

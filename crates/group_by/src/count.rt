@@ -15,6 +15,7 @@ pub fn count_equal<T: PartialEq>(items: &[T], x: &T) -> usize
 pub fn distinct_positions(positions: &[usize]) -> bool
     ensures { Decides result (Distinct positions.now) }
 {
+    // A loop: `all` over places with their positions says the same, and no more plainly.
     for (place, position) in positions.iter().enumerate() {
         if count_equal(&positions[..place], position) > 0 {
             return false;

@@ -11,7 +11,7 @@ ghost use Rattle.group_by.specs.Keys.{keys_of, HasKeys};
 use crate::grouping_sets::group_ids;
 use crate::keys::GroupByKeys;
 use crate::physical::{GroupByRefused, PhysicalGroupBy};
-use cells::{Batch, Key};
+use cells::{Batch, Key, Refused};
 use std::alloc::Global;
 
 /// The key of a row of which no column is kept, as far as a key goes.
@@ -39,12 +39,16 @@ impl GroupByKeys {
                 ids: None,
             });
         }
+        // The grouping goes back with the fault, so that `?` would not do.
         match group_ids(heap, &group_by.groups) {
             Ok(ids) => Ok(GroupByKeys {
                 group_by,
                 ids: Some(ids),
             }),
-            Err(fault) => Err(GroupByRefused { group_by, fault }),
+            Err(fault) => Err(Refused {
+                given: group_by,
+                fault,
+            }),
         }
     }
 
@@ -93,10 +97,8 @@ impl GroupByKeys {
     fn is_masked(&self, set: usize, place: usize) -> bool
         ensures { result ≡ slice_index_or (slice_index_or (keys_of self.now).sets set []) place false }
     {
-        match self.group_by.groups.get(set) {
-            Some(marks) => marks.get(place).copied().unwrap_or(false),
-            None => false,
-        }
+        let marks = self.group_by.groups.get(set);
+        marks.is_some_and(|marks| marks.get(place).copied().unwrap_or(false))
     }
 
     /// The id of a set, 0 past the last, where keys end in one.

@@ -40,6 +40,7 @@ impl From<AllocError> for GroupByFault {
 pub fn max_duplicate_ordinal(groups: &[Vec<bool>]) -> usize
     ensures { result ≡ greatest_ordinal (sets_of groups.now) }
 {
+    // A loop, since a closure in a chain would not know that the set is one of them.
     let mut greatest: usize = 0;
     for set in 0..groups.len() {
         greatest = greatest.max(duplicate_ordinal(groups, set));

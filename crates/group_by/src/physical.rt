@@ -3,6 +3,7 @@
 //! Ported from datafusion-physical-plan 55.0.0, src/aggregates/mod.rs, and changed.
 
 use crate::grouping_sets::GroupByFault;
+use cells::Refused;
 
 /// The key columns, and which of them each grouping set masks.
 #[derive(Drop)]
@@ -16,11 +17,4 @@ pub struct PhysicalGroupBy {
 }
 
 /// A grouping whose ids could not be worked out.
-// Named for what it gives back, which one type for all that is refused could not be.
-#[derive(Drop)]
-pub struct GroupByRefused {
-    /// The grouping, as it was passed.
-    pub group_by: PhysicalGroupBy,
-    /// What was wrong.
-    pub fault: GroupByFault,
-}
+pub type GroupByRefused = Refused<PhysicalGroupBy, GroupByFault>;

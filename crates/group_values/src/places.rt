@@ -8,7 +8,7 @@ ghost use Rattle.group_values.specs.Tables.{Distinct};
 use cells::Key;
 use std::collections::HashMap;
 
-/// Adds a key. Where the map has room to spare it allocates nothing, so this cannot fail.
+/// Adds a key. The map has room to spare, so this cannot fail.
 pub(crate) fn add_place(places: &mut HashMap<Key, usize>, key: &Key, place: usize)
     requires { (get key_eq places.old key.now ≡ None) × (0 < spare places.old) }
     ensures updates { Updates key_eq places.old places.new key.now (Some place) }

@@ -30,7 +30,7 @@ pub(crate) fn slot_key(slot: u8) -> Key
 }
 
 /// The place of each slot, if it is held.
-pub(crate) fn places_of(slots: &[u8]) -> [Option<u8>; 65]
+pub(crate) fn places_of(slots: &[u8]) -> [Option<u8>; SLOTS]
     requires { (length slots.now ≤ 65) × ((Below slots.now) × (Distinct (map slot_key slots.now))) }
     ensures { SlotIndex slots.now result }
 {

@@ -61,6 +61,7 @@ impl GroupValues for GroupValuesSmall {
     }
 
     fn emit(&mut self, emit_to: EmitTo) {
+        // `shift` is for a Vec; these slots lie in the table itself.
         let count = emit_to.count(self.slots.len());
         self.slots.drain(..count);
         self.places = places_of(&self.slots);

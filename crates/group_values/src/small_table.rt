@@ -2,14 +2,15 @@
 
 ghost use Rattle.group_values.specs.Slots.{SlotIndex};
 
+use crate::slot::SLOTS;
 use arrayvec::ArrayVec;
 
 /// Admits keys of one cell that is absent or 0 to 63, and finds them by index.
 #[derive(Drop)]
 pub struct GroupValuesSmall {
     /// The slots of the keys held, in the order first seen.
-    pub(crate) slots: ArrayVec<u8, 65>,
+    pub(crate) slots: ArrayVec<u8, SLOTS>,
     /// The place of each slot.
-    pub(crate) places: [Option<u8>; 65],
+    pub(crate) places: [Option<u8>; SLOTS],
     ghost indexed: { SlotIndex slots.items places },
 }

@@ -21,7 +21,7 @@ pub struct HeldGroups<G: GroupValues, A: GroupsAccumulator> {
     ghost places_room: { 512 ≤ vec_capacity current_group_indices },
 }
 
-/// The parts of held groups for whose buffers there was no memory, as they were passed.
+/// The parts of held groups for whose buffers there was no memory, as they were passed; that is the only fault.
 #[derive(Drop)]
 pub struct HeldRefused<G, A> {
     pub group_values: G,

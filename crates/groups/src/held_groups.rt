@@ -23,8 +23,8 @@ use cells::{Batch, EmitTo, MAX_GROUPS};
 use group_values::GroupValues;
 use output::{OutputRow, Waiting, converted_row, result_row, state_row};
 
-// The plan is lent to each step, since a stream keeps it while its groups change. Any accumulator may hold groups, so that
-// a row has room for a state is a premise here; a stream has it in its type.
+// A plan is lent to each step: it is made when the groups are, whose parts come back where it cannot be. Any accumulator may
+// hold groups, so that a row has room for a state is a premise here; a stream has it in its type.
 impl<G: GroupValues, A: GroupsAccumulator> HeldGroups<G, A> {
     /// Interns the keys of the batch's rows for a set, and keeps keys and places.
     fn intern_rows(&mut self, plan: &Plan, batch: &Batch<'_, '_>, set: usize)
@@ -137,7 +137,7 @@ impl<G: GroupValues, A: GroupsAccumulator> HeldGroups<G, A> {
     pub fn first_refused(&self, plan: &Plan, batch: &Batch<'_, '_>) -> Option<(usize, usize)>
         ensures { result ≡ key_out (setup_of A.aggregation G.admitted plan.now) 0 (view_rows batch.now) }
     {
-        // Both loops end at the first such row and set.
+        // Two loops with their places say plainly what is found; `find_map` in `find_map` would hide the order.
         'scan: {
             for row in 0..batch.num_rows() {
                 for set in 0..plan.num_sets() {
@@ -155,7 +155,7 @@ impl<G: GroupValues, A: GroupsAccumulator> HeldGroups<G, A> {
         ensures { Narrow A.aggregation → result ≡ out_row (setup_of A.aggregation G.admitted plan.now) (slice_index_or (G.keys self.now.group_values) group []) (slice_index_or (A.states self.now.accumulator) group A.aggregation.neutral) }
     {
         let key = self.group_values.key(group);
-        // Two arms say which; a writer chosen beforehand would be called from afar.
+        // Two arms say which; a writer chosen beforehand would be longer.
         match plan.settings.mode {
             AggregateMode::Partial => state_row(&key, &self.accumulator, group),
             AggregateMode::Single => result_row(&key, &self.accumulator, group),

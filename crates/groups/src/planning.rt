@@ -5,6 +5,7 @@ ghost use Rattle.groups.specs.Making.{Planned};
 use crate::plan::Plan;
 use crate::settings::{PlanRefused, Settings, SettingsFault};
 use accumulators::GroupsAccumulator;
+use cells::Refused;
 use group_by::GroupByKeys;
 use group_values::GroupValues;
 use std::alloc::Global;
@@ -20,9 +21,13 @@ impl Plan {
         ensures { Planned A.aggregation G.admitted settings parts_are_new result }
     {
         if let Err(fault) = settings.check::<G, A>(table, parts_are_new) {
-            return Err(PlanRefused { settings, fault });
+            return Err(Refused {
+                given: settings,
+                fault,
+            });
         }
         match GroupByKeys::try_new(heap, settings.group_by) {
+            // `..settings` cannot change the type of what is grouped by.
             Ok(keys) => Ok(Plan {
                 settings: Settings {
                     mode: settings.mode,
@@ -38,9 +43,9 @@ impl Plan {
             }),
             // Few sets with few marks have ids, so that only memory can be wanting.
             Err(refused) => {
-                settings.group_by = refused.group_by;
-                Err(PlanRefused {
-                    settings,
+                settings.group_by = refused.given;
+                Err(Refused {
+                    given: settings,
                     fault: SettingsFault::Memory,
                 })
             }

@@ -5,6 +5,7 @@ ghost use Rattle.std.specs.Option.{option_map};
 ghost use Rattle.groups.specs.Settings.{settings_refusal};
 
 use aggregates::AggregateExpr;
+use cells::Refused;
 use group_by::PhysicalGroupBy;
 use order::InputOrderMode;
 
@@ -71,11 +72,4 @@ impl SettingsFault {
 }
 
 /// Settings that were turned down.
-// Named for what it gives back, which one type for all that is refused could not be.
-#[derive(Drop)]
-pub struct PlanRefused {
-    /// The settings, as they were passed.
-    pub settings: Settings,
-    /// What was wrong.
-    pub fault: SettingsFault,
-}
+pub type PlanRefused = Refused<Settings, SettingsFault>;

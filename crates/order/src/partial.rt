@@ -86,10 +86,7 @@ impl GroupOrderingPartial {
     fn goes_on(&self, run: &Run) -> bool
         ensures { result ≡ (run.now.start == 0 && is_counted (partial_order self.now).counted run.now.sort_key) }
     {
-        match self.progress {
-            Progress::InProgress { sort_key, .. } => run.start == 0 && sort_key == run.sort_key,
-            _ => false,
-        }
+        matches!(self.progress, Progress::InProgress { sort_key, .. } if run.start == 0 && sort_key == run.sort_key)
     }
 
     /// A batch has opened groups; its rows have these keys and places.

@@ -14,7 +14,7 @@ use cells::{Batch, Cell, Key};
 const MAX_STATE_CELLS: usize = 8;
 
 /// Writes the key to the front of a row, and answers its length.
-fn put_key(row: &mut [Cell; 15], key: &Key) -> usize
+fn put_key(row: &mut [Cell; MAX_ROW_CELLS], key: &Key) -> usize
     ensures cells { row.new ≡ overlaid key.now row.old }
     ensures len { result ≡ length key.now }
     ensures bound { result ≤ 7 }

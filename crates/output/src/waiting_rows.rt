@@ -19,7 +19,7 @@ fn parts(cell: Cell) -> (i64, u8)
 }
 
 /// Writes a row's first `width` cells from `start` on.
-// The two slices are the caller's; a struct of both would be made and taken apart at each call.
+// The two slices are the caller's, and a struct of both would be made anew at each call.
 fn write_row(row: &OutputRow, start: usize, width: usize, values: &mut [i64], flags: &mut [u8])
     ensures values { values.new ≡ put_at start (map value_of (padded width row.now)) values.old }
     ensures flags { flags.new ≡ put_at start (map flag_of (padded width row.now)) flags.old }

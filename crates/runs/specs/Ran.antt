@@ -1,10 +1,12 @@
 -- What a run of a script comes to, and the law of it. Assumes nothing.
 use Rattle.std.specs.Prelude.{◌≡◌, ℕ, Bool, List, ◌++◌, map, ℤ, Some, None, Ok, Err, vec_items, Option, Result}
+use Rattle.cells.specs.declared.refused.Refused.{Refused}
 use Rattle.cells.specs.Refusals.{Refusal}
 use Rattle.cells.specs.Rows.{CellOf}
 use Rattle.accumulators.specs.declared.groups_accumulator.GroupsAccumulator as GroupsAccumulator
 use Rattle.group_values.specs.declared.group_values.GroupValues as GroupValues
 use Rattle.memory.specs.declared.reservation.MemoryReservation as MemoryReservation
+use Rattle.groups.specs.declared.settings.SettingsFault.{SettingsFault}
 use Rattle.groups.specs.Plans.{settings_of}
 use Rattle.groups.specs.Settings.{given_settings, given_setup, settings_refusal}
 use Rattle.model.specs.Setups.{Setup, out_width}
@@ -16,7 +18,6 @@ use Rattle.model.specs.Runs.{Reservation}
 use Rattle.runs.specs.Noted.{Noted, event_of, LeadsNoting}
 use Rattle.model.specs.Law.{Law}
 use Rattle.stream.specs.declared.state.StreamParts.{StreamParts}
-use Rattle.stream.specs.declared.state.StreamRefused.{StreamRefused}
 use Rattle.stream.specs.Making.{are_new}
 use Rattle.stream.specs.Streams.{StreamOf, model_of, setup_in, memory_of}
 use Rattle.stream.specs.Calls.{Makes}
@@ -83,7 +84,7 @@ module _ {G A S R : Type 0} {g : GroupValues.Ghosts G} {a : GroupsAccumulator.Gh
   Staged (Closing s) (Some x) = Unit {0}
 
   -- a run of the whole script on a stream of the parts, where every question is answered yes; else the parts come back, with the first question that is not, or where there is no memory, and the script is as it was
-  abbrev pub Runs : StreamParts G A R → Script → Result (Run G A R S g a r) (StreamRefused G A R) → Script → Type 0
+  abbrev pub Runs : StreamParts G A R → Script → Result (Run G A R S g a r) (Refused (StreamParts G A R) SettingsFault) → Script → Type 0
   Runs parts script (Ok run) script' =
       let s = stream_of run.stage in
       (settings_fault (given_setup a.aggregation g.admitted parts.settings) (are_new g a r parts) ≡ None)
@@ -92,5 +93,5 @@ module _ {G A S R : Type 0} {g : GroupValues.Ghosts G} {a : GroupsAccumulator.Gh
       × Ran (setup_in s) (memory_of s) script script' (vec_items run.replies) (model_of s) s.reservation
   Runs parts script (Err back) script' =
       ((e : Refusal) → settings_refusal back.fault ≡ Some e → settings_fault (given_setup a.aggregation g.admitted parts.settings) (are_new g a r parts) ≡ Some e)
-      × (back.parts ≡ parts)
+      × (back.given ≡ parts)
       × (script' ≡ script)

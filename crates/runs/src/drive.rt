@@ -8,6 +8,7 @@ ghost use Rattle.runs.specs.Ran.{LeadsTo, CalledOn, WalkedOn, Runs};
 
 use crate::script::{Answer, Buffers, Call, Reply, Run, Script, Stage};
 use accumulators::GroupsAccumulator;
+use cells::Refused;
 use group_values::GroupValues;
 use groups::SettingsFault;
 use memory::MemoryReservation;
@@ -61,6 +62,7 @@ fn make<G: GroupValues, A: GroupsAccumulator, R: MemoryReservation>(
     ensures plan { stream.new.plan ≡ stream.old.plan }
     ensures request { request_of call.new ≡ request_of call.old }
 {
+    // The two calls of a script, each made as it is.
     match call {
         Call::Offer(batch) => offer_from(stream, batch),
         Call::Take(out) => take_into(stream, out),
@@ -88,7 +90,7 @@ fn read<G: GroupValues, A: GroupsAccumulator, R: MemoryReservation>(
 }
 
 /// Takes rows of a stream whose input is finished into the slices of a call.
-// The two streams share no type; a trait for one call on either would be longer than the second function.
+// A closing stream only takes, so it is a type of its own; a trait for one call on either would be longer than this.
 fn drain_into<G: GroupValues, A: GroupsAccumulator, R: MemoryReservation>(
     stream: &mut ClosingStream<G, A, R>,
     out: &mut Buffers,
@@ -102,6 +104,7 @@ fn drain_into<G: GroupValues, A: GroupsAccumulator, R: MemoryReservation>(
 }
 
 /// Takes from a stream whose input is finished.
+// As `read`, of the other type; see `drain_into`.
 fn drain<G: GroupValues, A: GroupsAccumulator, R: MemoryReservation>(
     stream: &mut ClosingStream<G, A, R>,
     takes: &mut [Buffers],
@@ -147,8 +150,10 @@ pub fn run<G: GroupValues, A: GroupsAccumulator, R: MemoryReservation>(
 {
     // The parts go back, so that `?` would not do.
     let Ok(mut replies) = Vec::with_capacity(heap, script.len()) else {
-        let fault = SettingsFault::Memory;
-        return Err(StreamRefused { parts, fault });
+        return Err(Refused {
+            given: parts,
+            fault: SettingsFault::Memory,
+        });
     };
     let mut stream = GroupedHashAggregateStream::try_new(heap, parts)?;
     read(&mut stream, &mut script.reading, &mut replies);

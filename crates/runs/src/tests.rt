@@ -27,13 +27,10 @@ fn offer(heap: Global, rows: &[(i64, i64)]) -> Result<Call, AllocError> {
 
 /// Room for so many cells, each with the value -1 and the flag 9.
 fn room(heap: Global, cells: usize) -> Result<Buffers, AllocError> {
-    let mut values = Vec::new(heap);
-    let mut flags = Vec::new(heap);
-    for _ in 0..cells {
-        values.push(-1)?;
-        flags.push(9)?;
-    }
-    Ok(Buffers { values, flags })
+    Ok(Buffers {
+        values: vec![in heap; -1; cells]?,
+        flags: vec![in heap; 9; cells]?,
+    })
 }
 
 /// Count and minimum by the first column, two rows a take, without order, limit or probe; grouped by one set that masks the
@@ -82,10 +79,7 @@ fn outcome(
         accumulator: counts,
         reservation: RecordedReservation::new(u64::MAX - 1),
     };
-    match run(heap, parts, script) {
-        Ok(done) => Ok(Some(done)),
-        Err(_) => Ok(None),
-    }
+    Ok(run(heap, parts, script).ok())
 }
 
 /// An answer as a word, and the rows that were handed out.
@@ -107,22 +101,16 @@ fn holds(out: &Buffers, values: &[i64], flags: &[u8]) -> bool {
 
 /// Whether the second call is a take whose slices hold these cells.
 fn early(script: &Script, values: &[i64], flags: &[u8]) -> bool {
-    if let Some(Call::Take(out)) = script.reading.get(1) {
-        holds(out, values, flags)
-    } else {
-        false
-    }
+    let second = script.reading.get(1);
+    second.is_some_and(|call| matches!(call, Call::Take(out) if holds(out, values, flags)))
 }
 
 /// Whether the slices of the first take after finish hold these cells.
 fn late(script: &Script, values: &[i64], flags: &[u8]) -> bool {
-    let Some(takes) = &script.closing else {
-        return false;
-    };
-    let Some(out) = takes.first() else {
-        return false;
-    };
-    holds(out, values, flags)
+    let takes = script.closing.as_ref();
+    takes
+        .and_then(|takes| takes.first())
+        .is_some_and(|out| holds(out, values, flags))
 }
 
 #[test]

@@ -1,11 +1,13 @@
 -- A stream of new parts, or what was passed back. Assumes nothing.
 use Rattle.std.specs.Prelude.{◌≡◌, Bool, true, ◌&&◌, length, None, Ok, Err, Result, ◌==◌}
+use Rattle.cells.specs.declared.refused.Refused.{Refused}
 use Rattle.accumulators.specs.declared.groups_accumulator.GroupsAccumulator as GroupsAccumulator
 use Rattle.group_values.specs.declared.group_values.GroupValues as GroupValues
 use Rattle.memory.specs.declared.reservation.MemoryReservation as MemoryReservation
 use Rattle.group_by.specs.declared.physical.PhysicalGroupBy.{PhysicalGroupBy}
 use Rattle.groups.specs.declared.held.HeldGroups.{HeldGroups}
 use Rattle.groups.specs.declared.settings.Settings.{Settings}
+use Rattle.groups.specs.declared.settings.SettingsFault.{SettingsFault}
 use Rattle.groups.specs.Plans.{settings_of}
 use Rattle.groups.specs.Settings.{given_settings, given_setup, settings_refusal}
 use Rattle.groups.specs.Held.{Narrow}
@@ -13,7 +15,6 @@ use Rattle.model.specs.Questions.{settings_fault}
 use Rattle.model.specs.Machine.{start}
 use Rattle.model.specs.Law.{Sensible}
 use Rattle.stream.specs.declared.state.StreamParts.{StreamParts}
-use Rattle.stream.specs.declared.state.StreamRefused.{StreamRefused}
 use Rattle.stream.specs.Streams.{StreamOf, model_of, setup_in}
 
 -- no key, no state and no byte is held, and nothing was refused
@@ -45,8 +46,8 @@ module _ {G A S R : Type 0} {g : GroupValues.Ghosts G} {a : GroupsAccumulator.Gh
 
   -- a stream exactly where every question is answered yes and there is memory; else the first that is not, and the parts
   -- as they were passed
-  abbrev pub Founded : StreamParts G A R → Result (StreamOf g a r) (StreamRefused G A R) → Type 0
+  abbrev pub Founded : StreamParts G A R → Result (StreamOf g a r) (Refused (StreamParts G A R) SettingsFault) → Type 0
   Founded parts (Ok s) =
       (settings_fault (given_setup a.aggregation g.admitted parts.settings) (are_new g a r parts) ≡ None) × Begins parts s
   Founded parts (Err e) =
-      (settings_refusal e.fault ≡ settings_fault (given_setup a.aggregation g.admitted parts.settings) (are_new g a r parts)) × (e.parts ≡ parts)
+      (settings_refusal e.fault ≡ settings_fault (given_setup a.aggregation g.admitted parts.settings) (are_new g a r parts)) × (e.given ≡ parts)

@@ -33,9 +33,9 @@ impl<G: GroupValues, A: GroupsAccumulator, R: MemoryReservation> GroupedHashAggr
         if self.input_done {
             return Err(OfferFault::Ended);
         }
+        // Each state has its arm, so that none is forgotten.
         match self.exec_state {
-            ExecutionState::ReadingInput => Ok(()),
-            ExecutionState::SkippingAggregation => Ok(()),
+            ExecutionState::ReadingInput | ExecutionState::SkippingAggregation => Ok(()),
             ExecutionState::ProducingOutput { .. } => Err(OfferFault::RowsWait),
             ExecutionState::Done => Err(OfferFault::Ended),
         }

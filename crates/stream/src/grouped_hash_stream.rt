@@ -47,6 +47,8 @@ impl<G: GroupValues, A: GroupsAccumulator, R: MemoryReservation> GroupedHashAggr
         let _ = self.update_memory_reservation();
     }
 
+    // `refused` says that memory alone can be wanting. An error type of one value would say so too, and be turned into an
+    // `OfferFault` at each call that has it.
     /// Asks for memory. Where it is refused, Partial mode with more than one group sends groups out early.
     fn try_update_memory_reservation(&mut self) -> Result<(), OfferFault>
         ensures does { Does reserved self.old self.new (offer_answer result) }

@@ -12,6 +12,7 @@ ghost use Rattle.stream.specs.Making.{are_new, parts_in, Founded};
 
 use crate::state::{ExecutionState, GroupedHashAggregateStream, StreamParts, StreamRefused};
 use accumulators::GroupsAccumulator;
+use cells::Refused;
 use group_values::GroupValues;
 use groups::{HeldGroups, Plan, Settings, SettingsFault};
 use memory::MemoryReservation;
@@ -45,7 +46,10 @@ impl<G: GroupValues, A: GroupsAccumulator, R: MemoryReservation> GroupedHashAggr
     {
         let new = parts.are_new();
         if let Err(fault) = parts.settings.check::<G, A>(&parts.group_values, new) {
-            return Err(StreamRefused { parts, fault });
+            return Err(Refused {
+                given: parts,
+                fault,
+            });
         }
         let StreamParts {
             settings,
@@ -56,8 +60,8 @@ impl<G: GroupValues, A: GroupsAccumulator, R: MemoryReservation> GroupedHashAggr
         // The other parts go back with these, so that `?` would not do.
         match HeldGroups::new(heap, group_values, accumulator, &settings.order) {
             Ok(held) => Self::over(heap, settings, held, reservation, new),
-            Err(back) => Err(StreamRefused {
-                parts: StreamParts {
+            Err(back) => Err(Refused {
+                given: StreamParts {
                     settings,
                     group_values: back.group_values,
                     accumulator: back.accumulator,
@@ -81,6 +85,7 @@ impl<G: GroupValues, A: GroupsAccumulator, R: MemoryReservation> GroupedHashAggr
         requires order { (held_of held).order ≡ start (mode_of settings.order) }
         ensures { Founded (parts_in settings held reservation) result }
     {
+        // The parts go back with each fault, so that `?` would not do.
         let Ok(waiting) = Waiting::new(heap) else {
             return Err(Self::back(settings, held, reservation, SettingsFault::Memory));
         };
@@ -96,7 +101,7 @@ impl<G: GroupValues, A: GroupsAccumulator, R: MemoryReservation> GroupedHashAggr
                 waiting,
                 reservation,
             }),
-            Err(refused) => Err(Self::back(refused.settings, held, reservation, refused.fault)),
+            Err(refused) => Err(Self::back(refused.given, held, reservation, refused.fault)),
         }
     }
 
@@ -107,12 +112,12 @@ impl<G: GroupValues, A: GroupsAccumulator, R: MemoryReservation> GroupedHashAggr
         reservation: R,
         fault: SettingsFault,
     ) -> StreamRefused<G, A, R>
-        ensures parts { result.parts ≡ parts_in settings held reservation }
+        ensures given { result.given ≡ parts_in settings held reservation }
         ensures fault { result.fault ≡ fault }
     {
         let (group_values, accumulator) = held.into_parts();
-        StreamRefused {
-            parts: StreamParts {
+        Refused {
+            given: StreamParts {
                 settings,
                 group_values,
                 accumulator,

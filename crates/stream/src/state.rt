@@ -6,7 +6,7 @@ ghost use Rattle.groups.specs.Settings.{is_partial};
 ghost use Rattle.stream.specs.Passing.{passes_on};
 
 use accumulators::GroupsAccumulator;
-use cells::Batch;
+use cells::{Batch, Refused};
 use group_values::GroupValues;
 use groups::{HeldGroups, Plan, Settings, SettingsFault};
 use memory::MemoryReservation;
@@ -74,11 +74,5 @@ pub struct StreamParts<G, A, R> {
     pub reservation: R,
 }
 
-/// The parts of a stream that could not be made, as they were passed.
-// Named for what it gives back, which one type for all that is refused could not be.
-#[derive(Drop)]
-pub struct StreamRefused<G, A, R> {
-    pub parts: StreamParts<G, A, R>,
-    /// What was wrong.
-    pub fault: SettingsFault,
-}
+/// The parts of a stream that could not be made.
+pub type StreamRefused<G, A, R> = Refused<StreamParts<G, A, R>, SettingsFault>;
