@@ -235,6 +235,7 @@ mod tests {
     fn read(bytes: &[u8]) -> Result<u64, Fault> {
         let mut reader = SegmentReader::new();
         let mut rows = 0u64;
+        // A loop, since a fault ends the reading at any byte.
         for byte in bytes {
             if reader.feed(*byte)?.is_some() {
                 rows = rows.saturating_add(1);

@@ -15,7 +15,7 @@ const ROWS: usize = 512;
 
 const ROUNDS: usize = 4000;
 
-/// A place that no group has, so that its row is passed over: accumulators take places as numbers.
+/// A place that no group has, so that its row is passed over; accumulators take places as numbers.
 const NOWHERE: usize = usize::MAX;
 
 /// Keys and places of a batch whose rows go round among so many groups. Values and flags are the
