@@ -90,7 +90,7 @@ fn read<G: GroupValues, A: GroupsAccumulator, R: MemoryReservation>(
 }
 
 /// Takes rows of a stream whose input is finished into the slices of a call.
-// A closing stream only takes, so it is a type of its own; a trait for one call on either would be longer than this.
+// A closing stream only takes, so it is a type of its own; a trait for two calls on either would be longer than this.
 fn drain_into<G: GroupValues, A: GroupsAccumulator, R: MemoryReservation>(
     stream: &mut ClosingStream<G, A, R>,
     out: &mut Buffers,
@@ -126,6 +126,7 @@ impl Script {
     fn len(&self) -> usize
         ensures { result ≡ min (length (requests_of self.now)) (2 ^ 64 - 1) }
     {
+        // `map_or` would hide that finish is a call too.
         match &self.closing {
             Some(takes) => self
                 .reading

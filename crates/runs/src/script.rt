@@ -30,7 +30,7 @@ pub struct Script {
 }
 
 /// What a call answered.
-#[derive(Clone, Copy)]
+#[derive(Clone, Copy, PartialEq, Eq, Debug)]
 pub enum Answer {
     Offered(Result<(), OfferFault>),
     Took(Result<Option<usize>, TakeFault>),
@@ -38,7 +38,7 @@ pub enum Answer {
 }
 
 /// A call's answer, and the reservation after it.
-#[derive(Clone, Copy)]
+#[derive(Clone, Copy, PartialEq, Eq, Debug)]
 pub struct Reply {
     pub answer: Answer,
     pub bytes: usize,

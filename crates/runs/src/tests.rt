@@ -1,6 +1,6 @@
 //! Runs worked out by hand.
 
-use crate::{Answer, Buffers, Call, Run, Script, run};
+use crate::{Answer, Buffers, Call, Reply, Run, Script, run};
 use accumulators::{KindGroupsAccumulator, PairGroupsAccumulator};
 use aggregates::{AggregateExpr, Count, Min};
 use group_by::PhysicalGroupBy;
@@ -82,15 +82,12 @@ fn outcome(
     Ok(run(heap, parts, script).ok())
 }
 
-/// An answer as a word, and the rows that were handed out.
-fn word(answer: Answer) -> (&'static str, usize) {
-    match answer {
-        Answer::Offered(Ok(())) => ("accepted", 0),
-        Answer::Offered(Err(_)) => ("refused", 0),
-        Answer::Took(Ok(Some(rows))) => ("handed", rows),
-        Answer::Took(Ok(None)) => ("nothing", 0),
-        Answer::Took(Err(_)) => ("too short", 0),
-        Answer::Finished => ("closed", 0),
+/// A reply of a run in which the last answer of memory is yes.
+fn granted(answer: Answer, bytes: usize) -> Reply {
+    Reply {
+        answer,
+        bytes,
+        granted: true,
     }
 }
 
@@ -132,19 +129,15 @@ fn first_groups_go_out_where_memory_is_refused(rt: HostRuntime) -> Result<(), Fa
     )?;
     assert!(rt; done.is_some(), "no stream was made");
     let wanted = [
-        ("accepted", 0, 0, true),
-        ("handed", 2, 0, true),
-        ("accepted", 0, 24, true),
-        ("closed", 0, 0, true),
-        ("handed", 1, 0, true),
-        ("nothing", 0, 0, true),
+        granted(Answer::Offered(Ok(())), 0),
+        granted(Answer::Took(Ok(Some(2))), 0),
+        granted(Answer::Offered(Ok(())), 24),
+        granted(Answer::Finished, 0),
+        granted(Answer::Took(Ok(Some(1))), 0),
+        granted(Answer::Took(Ok(None)), 0),
     ];
     if let Some(done) = &done {
-        assert_eq!(rt; done.replies.len(), wanted.len());
-        for (reply, want) in done.replies.iter().zip(wanted) {
-            let (answer, rows) = word(reply.answer);
-            assert_eq!(rt; (answer, rows, reply.bytes, reply.granted), want);
-        }
+        assert_eq!(rt; done.replies.as_slice(), wanted.as_slice());
     }
     assert!(rt; early(&script, &[5, 2, 10, 6, 1, 20, -1], &[1, 1, 1, 1, 1, 1, 9]));
     assert!(rt; late(&script, &[6, 1, 15], &[1, 1, 1]));
