@@ -3,9 +3,13 @@
 ghost use Rattle.aggregates.specs.LawsOfKinds.{earliest_folds};
 
 use crate::folded::{Fold, Folded};
+use std::marker::PhantomData;
 
 /// The argument that came first; absent until one comes.
 pub type Earliest = Folded<Earlier>;
+
+/// The kind as a value.
+pub const Earliest: Earliest = Folded(PhantomData);
 
 /// The earlier of two.
 #[derive(Clone, Copy)]

@@ -22,7 +22,7 @@ pub trait Fold {
 
 /// The arguments made one value by `F`; absent until one comes.
 #[derive(Clone, Copy)]
-pub struct Folded<F>(PhantomData<F>);
+pub struct Folded<F>(pub(crate) PhantomData<F>);
 
 impl<F: Fold> AggregateKind for Folded<F> {
     type State = Cell;

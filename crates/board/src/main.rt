@@ -28,7 +28,7 @@ impl Rows {
         }
     }
 
-    fn push(&mut self, row: Segment) -> Result<(), AllocError> {
+    fn push(&mut self, row: &Segment) -> Result<(), AllocError> {
         for cell in row.as_slice() {
             self.values.push(cell.unwrap_or(0))?;
             self.flags.push(u8::from(cell.is_some()))?;
@@ -58,8 +58,8 @@ fn read(heap: Global, path: &str, bytes: &[u8]) -> anyhow::Result<Report> {
     let mut report = Report::new(heap)?;
     let mut rows = Rows::new(heap);
     let mut reader = SegmentReader::new();
-    for byte in bytes {
-        if let Some(row) = reader.feed(*byte).map_err(in_file)? {
+    for line in bytes.split_inclusive(|byte| *byte == b'\n') {
+        if let Some(row) = reader.feed_all(line).map_err(in_file)? {
             rows.push(row)?;
             if rows.are_many() {
                 rows.pass(&mut report)?;

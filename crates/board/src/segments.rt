@@ -1,7 +1,6 @@
 //! The trace segments of a board as text: a header, and then a line for each segment.
 
 use cells::{Cell, CellRow};
-use std::mem;
 use thiserror::Error;
 
 /// What each line holds, in this order.
@@ -101,27 +100,27 @@ impl Row {
         }
     }
 
-    /// One byte more; the segment, if it ends there.
-    fn read(&mut self, byte: u8) -> Result<Option<Segment>, Wrong> {
+    /// One byte more; whether the segment ends there.
+    fn read(&mut self, byte: u8) -> Result<bool, Wrong> {
         match byte {
             b',' => {
                 self.end_cell()?;
                 if self.is_whole() {
                     return Err(Wrong::ManyCells);
                 }
-                Ok(None)
+                Ok(false)
             }
             b'\n' => {
                 self.end_cell()?;
                 if !self.is_whole() {
                     return Err(Wrong::FewCells);
                 }
-                Ok(Some(mem::replace(self, Row::new()).cells))
+                Ok(true)
             }
-            b'\r' => Ok(None),
+            b'\r' => Ok(false),
             _ => {
                 self.last = self.last.with(byte)?;
-                Ok(None)
+                Ok(false)
             }
         }
     }
@@ -173,9 +172,18 @@ impl SegmentReader {
         }
     }
 
+    /// The bytes of a line, or of its beginning; a segment, if they end one.
+    pub fn feed_all(&mut self, bytes: &[u8]) -> Result<Option<&Segment>, Fault> {
+        let mut whole = false;
+        for byte in bytes {
+            whole = self.feed(*byte)?.is_some();
+        }
+        Ok(whole.then_some(&self.row.cells))
+    }
+
     /// One byte more; a segment, if it ends one.
-    pub fn feed(&mut self, byte: u8) -> Result<Option<Segment>, Fault> {
-        let segment = self.read(byte).map_err(|wrong| self.fault(wrong))?;
+    pub fn feed(&mut self, byte: u8) -> Result<Option<&Segment>, Fault> {
+        let whole = self.read(byte).map_err(|wrong| self.fault(wrong))?;
         if byte == b'\n' {
             self.line = self.line.saturating_add(1);
             self.column = 1;
@@ -185,30 +193,31 @@ impl SegmentReader {
         if matches!(byte, b',' | b'\n') {
             self.begins = self.column;
         }
-        Ok(segment)
+        Ok(whole.then_some(&self.row.cells))
     }
 
     /// The file is at its end; the segment of a last line that no line feed ends.
-    pub fn finish(&mut self) -> Result<Option<Segment>, Fault> {
+    pub fn finish(&mut self) -> Result<Option<&Segment>, Fault> {
         if self.header.is_none() && self.column == 1 {
             Ok(None)
         } else {
-            self.feed(b'\n')
+            self.feed_all(b"\n")
         }
     }
 
-    fn read(&mut self, byte: u8) -> Result<Option<Segment>, Wrong> {
+    fn read(&mut self, byte: u8) -> Result<bool, Wrong> {
         if self.carriage && byte != b'\n' {
             return Err(Wrong::LineEnd);
         }
         self.carriage = byte == b'\r';
-        match self.header {
-            Some(left) => {
-                self.header = header_behind(left, byte)?;
-                Ok(None)
-            }
-            None => self.row.read(byte),
+        if let Some(left) = self.header {
+            self.header = header_behind(left, byte)?;
+            return Ok(false);
         }
+        if self.column == 1 {
+            self.row = Row::new();
+        }
+        self.row.read(byte)
     }
 
     /// A number out of range is told where its cell begins, all else where it shows.

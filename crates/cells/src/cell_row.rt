@@ -74,11 +74,10 @@ impl<const N: usize> CellRow<N> {
     pub fn from_slice(cells: &[Cell]) -> CellRow<N>
         ensures { result ≡ take N cells.now }
     {
-        let mut row = CellRow::new();
-        for cell in cells {
-            row.push(*cell);
-        }
-        row
+        let len = cells.len().min(N);
+        let mut row: [Cell; N] = [None; N];
+        row[..len].copy_from_slice(&cells[..len]);
+        CellRow { cells: row, len }
     }
 
     /// The cells, in their order.

@@ -29,7 +29,10 @@ impl EmitTo {
         ensures items { items.new.items ≡ left self items.old.items }
         ensures capacity { vec_capacity items.new ≡ vec_capacity items.old }
     {
-        let count = self.count(items.len());
-        items.drain(..count);
+        let held = items.len();
+        let count = self.count(held);
+        // A drain would turn the items around before it lets them go.
+        items.rotate_left(count);
+        items.truncate(held - count);
     }
 }

@@ -93,6 +93,10 @@ impl GroupOrderingPartial {
     pub fn new_groups(&mut self, keys: &[Key], places: &[usize])
         ensures { (total : ℕ) → partial_order self.new ≡ opened (partial_order self.old) keys.now places.now total }
     {
+        // At the input's end nothing changes, so that the keys need not be looked at.
+        if matches!(self.progress, Progress::Complete) {
+            return;
+        }
         let Some(run) = self.last_run(keys) else {
             return;
         };

@@ -1,6 +1,6 @@
 -- A key without a slot stays out, a slot with a place is found, and one without is added.
-use Rattle.std.proofs.Common.{◌<◌, [], ◌∷◌, ◌++◌, map, length, Some, sym, ap, ◌∙◌, subst, arith}
-use Rattle.group_values.specs.Slots.{slot_key, small_key}
+use Rattle.std.proofs.Common.{ℕ, ◌<◌, List, [], ◌∷◌, ◌++◌, map, length, set, Some, sym, ap, ◌∙◌, subst, arith}
+use Rattle.group_values.specs.Slots.{SlotIndex, slot_key, small_key}
 use Rattle.group_values.specs.Smalls.{small_keys}
 use Rattle.group_values.specs.Tables.{Absent}
 use Rattle.group_values.specs.SlotsLemmas.{slot_small, slots_distinct, slots_admitted, slots_found, slots_absent}
@@ -32,7 +32,11 @@ push-requires c =
 pub invariant_of-self : goal.invariant_of-self
 invariant_of-self c =
     let t = c.args.self.now in
-    record { indexed = rw (c.push.ensures.items, c.len-place.ensures.value) (small_index_push t c.in_ok-slot.slot c.in_ok-slot.ensures.0 c.in_default.is) }
+    let s = c.in_ok-slot.slot in
+    let places = λ (place : ℕ). set t.places s (Some place) in
+    let added = small_index_push t s c.in_ok-slot.ensures.0 c.in_default.is in
+    let at = subst (λ (place : ℕ). SlotIndex (t.slots.items ++ s ∷ []) (places place)) (sym c.len-place.ensures.value) added in
+    record { indexed = subst (λ (slots : List ℕ). SlotIndex slots (places c.len-place.result)) (sym c.push.ensures.items) at }
 
 pub returns : goal.returns
 returns c =
