@@ -245,8 +245,8 @@ mod tests {
         let mut reader = SegmentReader::new();
         let mut rows = 0u64;
         // A loop, since a fault ends the reading at any byte.
-        for byte in bytes {
-            if reader.feed(*byte)?.is_some() {
+        for line in bytes.split_inclusive(|byte| *byte == b'\n') {
+            if reader.feed_all(line)?.is_some() {
                 rows = rows.saturating_add(1);
             }
         }
